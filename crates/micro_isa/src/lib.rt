@@ -1,0 +1,16 @@
+//! The instruction set of the microengine, its programs and its images, as every crate above sees them.
+#![tactic(auto)]
+
+mod arithmetic;
+mod image;
+mod instr;
+mod list;
+mod name;
+mod program;
+
+pub use arithmetic::{AluOp, DivOp, Test, alu, divide, test_holds};
+pub use image::{Code, Image, PReg, Range, Word};
+pub use instr::{Instr, Next, Reads, reads_of, successors, switches, writes};
+pub use list::{List, NoMemory};
+pub use name::Name;
+pub use program::{Bundle, Channel, Label, Line, PortUse, Program, Setting, VReg};

@@ -1,0 +1,71 @@
+use crate::instr::Instr;
+use crate::list::List;
+use crate::name::Name;
+
+/// A register of a source context, by its number there.
+#[derive(Clone, Copy, Debug, PartialEq, Eq)]
+pub struct VReg(pub u16);
+
+/// An instruction and the line of the text that it stands on, counted from 1.
+#[derive(Clone, Copy, Debug, PartialEq, Eq)]
+pub struct Line {
+    pub instr: Instr<VReg>,
+    pub line: u32,
+}
+
+/// A name for the instruction `target` of a program.
+#[derive(Debug, Drop, PartialEq)]
+pub struct Label {
+    pub name: Name,
+    pub target: u32,
+}
+
+/// What one context runs. Registers are numbered as their names stand in `registers`.
+#[derive(Debug, Drop, PartialEq)]
+pub struct Program {
+    pub name: Name,
+    pub registers: List<Name>,
+    pub labels: List<Label>,
+    pub code: List<Line>,
+}
+
+/// The port behind an input channel, and how many fed words the channel holds at most.
+#[derive(Clone, Copy, Debug, PartialEq, Eq)]
+pub struct PortUse {
+    pub number: u8,
+    pub capacity: u32,
+}
+
+/// A channel of the engine.
+#[derive(Clone, Debug, Drop, PartialEq)]
+pub enum Channel {
+    /// Words that contexts send to each other, at most `capacity` at a time.
+    Inner {
+        capacity: u32,
+    },
+    /// Words that come from outside: the initial ones first, then those that the port gives.
+    Input {
+        words: List<u32>,
+        port: Option<PortUse>,
+    },
+    /// Words that go outside, also to the port of this number.
+    Output {
+        port: Option<u8>,
+    },
+}
+
+/// What the contexts of an engine share beside its registers. `memory` is a number of words.
+#[derive(Clone, Debug, Drop, PartialEq)]
+pub struct Setting {
+    pub memory: u32,
+    pub channels: List<Channel>,
+}
+
+/// A whole source text: the size of the file, the setting, the channels' names and a program a context.
+#[derive(Debug, Drop, PartialEq)]
+pub struct Bundle {
+    pub file: u32,
+    pub setting: Setting,
+    pub names: List<Name>,
+    pub programs: List<Program>,
+}
