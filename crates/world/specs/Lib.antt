@@ -1,0 +1,4 @@
+pub mod Channels
+pub mod WorldState
+pub mod Opening
+pub mod Views
