@@ -1,0 +1,36 @@
+-- The journal of a run: its events with the steps and the end of each segment.
+use Rattle.std.specs.Prelude.{◌≡◌, ℕ, List, [], ◌∷◌, map, Option, Some, None}
+use Rattle.world.specs.declared.event.Event.{Event}
+use Rattle.world.specs.declared.event.Event.TheVariants as event
+use Rattle.world.specs.declared.event.Seen.{Seen}
+use Rattle.world.specs.declared.event.Seen.TheVariants as seen
+use Rattle.world.specs.declared.event.Entry.{Entry}
+use Rattle.world.specs.declared.event.Entry.TheVariants as entry
+use Rattle.meanings.specs.Events.{Side, Moment, run}
+
+-- the event of an entry
+abbrev pub event_of : Entry → Event
+event_of (entry.Ran c steps end) = event.Run c
+event_of (entry.Fed k word) = event.Feed k word
+event_of (entry.Unplugged k) = event.Unplug k
+
+abbrev pub ran_entry : ℕ → Seen → Entry → Entry
+ran_entry c (seen.Ran s) other = entry.Ran c s.steps s.end
+ran_entry c _ other = other
+
+-- the entry of an event of which this is seen; a written one tells only its event
+abbrev pub entry_seen : Entry → Seen → Entry
+entry_seen (entry.Ran c steps end) s = ran_entry c s (entry.Ran c steps end)
+entry_seen (entry.Fed k word) s = entry.Fed k word
+entry_seen (entry.Unplugged k) s = entry.Unplugged k
+
+abbrev pub entries_seen : List Entry → List Seen → List Entry
+entries_seen (e ∷ es) (s ∷ ss) = entry_seen e s ∷ entries_seen es ss
+entries_seen _ _ = []
+
+-- the entries are legal from this moment on and lead to that one: their events may happen, one after another, and each
+-- segment has the steps and the end that its entry tells
+pub record IsLegal {X : Type 0} (side : Side X) (opening : Moment X) (entries : List Entry) (last : Moment X) : Type 0 where
+  pub seen : List Seen
+  pub happened : run side opening (map event_of entries) ≡ Some (last, seen)
+  pub told : entries_seen entries seen ≡ entries
