@@ -1,3 +1,4 @@
 pub mod Arithmetic
 pub mod Columns
 pub mod Names
+pub mod Formed
