@@ -1,4 +1,4 @@
-ghost use Rattle.std.specs.Prelude.{◌≡◌, ◌+◌, ◌≤◌, IfOk, None, replicate};
+ghost use Rattle.std.specs.Prelude.{◌≡◌, ◌+◌, ◌≤◌, IfOk, None, length, replicate};
 ghost use Rattle.micro_isa.specs.Formed.{IsFormedImage};
 ghost use Rattle.world.specs.WorldState.{can_feed, is_plugged};
 ghost use Rattle.world.specs.declared.event.Event.TheVariants.{Run as RunOf, Feed as FeedOf, Unplug as UnplugOf};
@@ -7,6 +7,7 @@ ghost use Rattle.meanings.specs.Core.{illegal_of, is_runnable, ending_of, shown_
 ghost use Rattle.meanings.specs.Events.{happens};
 ghost use Rattle.meanings.specs.Machine.{machine_side, machine_open, received_word, words_of};
 ghost use Rattle.engine_core.specs.EngineState.{moment_of, IsSound};
+ghost use Rattle.engine_core.specs.Segments.{GoesOn};
 
 use crate::place::ContextPlace;
 use crate::words::{advance, write};
@@ -61,6 +62,13 @@ impl Engine {
         ensures { result ≡ illegal_of self.now.core event }
     {
         self.core.illegal(event)
+    }
+
+    /// The number of contexts.
+    pub fn contexts(&self) -> usize
+        ensures { result ≡ length self.now.core.phases }
+    {
+        self.core.contexts()
     }
 
     /// Whether a context can go on; false where there is none of this number.
@@ -132,6 +140,7 @@ impl Engine {
         requires legal { illegal_of self.old.core (RunOf context) ≡ None }
         ensures image { self.new.image ≡ self.old.image }
         ensures happens { happens (machine_side self.old.image) (moment_of self.old) (RunOf context) ≡ (moment_of self.new, RanOf result) }
+        ensures goes_on { GoesOn self.old.core self.new.core }
     {
         segment_of(
             &self.image,
@@ -193,6 +202,7 @@ fn segment_of(
     requires sound { IsSound image.now core.old contexts.old }
     requires legal { illegal_of core.old (RunOf context) ≡ None }
     ensures sound { IsSound image.now core.new contexts.new }
+    ensures goes_on { GoesOn core.old core.new }
     ensures happens { happens (machine_side image.now) (moment_of (record { image = image.now; core = core.old; file = file.old; contexts = contexts.old })) (RunOf context)
         ≡ (moment_of (record { image = image.now; core = core.new; file = file.new; contexts = contexts.new }), RanOf result) }
 {
