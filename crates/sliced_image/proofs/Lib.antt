@@ -1,0 +1,4 @@
+pub mod Fitting
+pub mod Follow
+pub mod Contexts
+pub mod Placing
