@@ -18,7 +18,7 @@ pub and_right : (a b : Bool) → (a && b) ≡ true → b ≡ true
 and_right true b h = h
 and_right false b h = absurd (cc)
 
-below : (n : ℕ) (rs : List VReg) → all_below n (map (λ r. r.0) rs) ≡ true → AllBelow n rs
+pub below : (n : ℕ) (rs : List VReg) → all_below n (map (λ r. r.0) rs) ≡ true → AllBelow n rs
 below n [] h = tt
 below n (r ∷ rs) h =
     let rest = list_all (λ x. nat_lt x n) (map (λ r. r.0) rs) in

@@ -2,3 +2,4 @@ pub mod Fitting
 pub mod Follow
 pub mod Contexts
 pub mod Placing
+pub mod Forming

@@ -20,11 +20,12 @@ pub fn sliced_need(bundle: &Bundle) -> u32
 
 /// The sliced image of a bundle: register k of a context has place k of the context's slice. It does
 /// what the bundle does, for every bound and every list of events.
-#[tactic(auto, using(crate::proofs::Fitting::bundle_fits, crate::proofs::Placing::implemented))]
+#[tactic(auto, using(crate::proofs::Fitting::bundle_fits, crate::proofs::Placing::implemented, crate::proofs::Forming::image_formed))]
 pub fn slice_image(alloc: Global, bundle: &Bundle) -> Result<Image, NoMemory>
     requires formed { IsFormedBundle bundle.now }
     requires fits { sliced_need bundle.now ≤ bundle.now.file }
     ensures image { IfOk result (λ image. image ≡ sliced_image bundle.now) }
+    ensures formed { IfOk result (λ image. IsFormedImage image) }
     ensures same { IfOk result (λ image. Implements image bundle.now) }
 {
     image_of(alloc, bundle)
