@@ -197,17 +197,17 @@ code_formed m p s following room f chs within =
       few = subst (λ k. k ≤ 1564672) (sym long) (omega (arith, f.few));
       within = omega (arith, size_least following n);
       named = each_map (word_of place) (λ w. names_below (λ r. r.0) m.file (length (map (word_of place) p.code)) w.instr ≡ true) p.code
-      (λ i l e.
-        both (all_below m.file (map (λ r. r.0) (registers_in (rename place l.instr)))) (option_below (length (map (word_of place) p.code)) (target_of (rename place l.instr)))
-        (subst (λ rs. all_below m.file (map (λ r. r.0) rs) ≡ true) (sym (registers-rename place l.instr)) (placed_below m.file s n (registers_in l.instr) room (registers_below i l e)))
-        ((λ k. option_below (long k) ((stays place m.setting.channels l.instr).target k)) ∙ and_right (all_below n (map (λ r. r.0) (registers_in l.instr))) (option_below (length p.code) (target_of l.instr)) (f.named i l e)));
+          (λ i l e.
+          both (all_below m.file (map (λ r. r.0) (registers_in (rename place l.instr)))) (option_below (length (map (word_of place) p.code)) (target_of (rename place l.instr)))
+          (subst (λ rs. all_below m.file (map (λ r. r.0) rs) ≡ true) (sym (registers-rename place l.instr)) (placed_below m.file s n (registers_in l.instr) room (registers_below i l e)))
+          ((λ k. option_below (long k) ((stays place m.setting.channels l.instr).target k)) ∙ and_right (all_below n (map (λ r. r.0) (registers_in l.instr))) (option_below (length p.code) (target_of l.instr)) (f.named i l e)));
       written = each_map (word_of place) (λ w. writes_within own m.shared (written_by w.instr) ≡ true) p.code
-      (λ i l e. subst (λ o. writes_within own m.shared o ≡ true) (sym (stays place m.setting.channels l.instr).written) (written_within own m.shared s n (written_by l.instr) within (written_below n l.instr (registers_below i l e))));
+          (λ i l e. subst (λ o. writes_within own m.shared o ≡ true) (sym (stays place m.setting.channels l.instr).written) (written_within own m.shared s n (written_by l.instr) within (written_below n l.instr (registers_below i l e))));
       glue = each_map (word_of place) (λ w. glue_fits (map (word_of place) p.code) w ≡ true) p.code (λ i l e. refl);
       channels = each_map (word_of place) (λ w. fits_channels m.setting.channels w.instr ≡ true) p.code (λ i l e. (stays place m.setting.channels l.instr).channel ∙ chs i l e);
       ends = λ last e.
-        let k = mapped (word_of place) p.code (length p.code - 1) last (subst (λ j. slice_get (map (word_of place) p.code) (j - 1) ≡ Some last) long e) in
-        subst (λ w. never_falls w.instr ≡ true) k.2 ((stays place m.setting.channels (k.0).instr).falls ∙ f.ends k.0 k.1);
+          let k = mapped (word_of place) p.code (length p.code - 1) last (subst (λ j. slice_get (map (word_of place) p.code) (j - 1) ≡ Some last) long e) in
+          subst (λ w. never_falls w.instr ≡ true) k.2 ((stays place m.setting.channels (k.0).instr).falls ∙ f.ends k.0 k.1);
     }
 
 or_first : (a b : Bool) → a ≡ true → (a || b) ≡ true

@@ -3,3 +3,4 @@ pub mod Follow
 pub mod Contexts
 pub mod Placing
 pub mod Forming
+pub mod Example

@@ -3,7 +3,8 @@
 #![tactic(auto)]
 
 mod slices;
+#[cfg(test)]
+mod tests;
 mod words;
-
 
 pub use slices::{slice_image, sliced_need};
