@@ -35,6 +35,6 @@ abbrev pub two_adders : Bundle
 two_adders = record {
   file = 4;
   setting = record { memory = 0; channels = Output None ∷ [] };
-  names = (111 ∷ []) ∷ [];
+  names = (111 ∷ 117 ∷ 116 ∷ []) ∷ [];
   programs = adder (97 ∷ []) 4 ∷ adder (98 ∷ []) 11 ∷ [];
 }

@@ -98,18 +98,32 @@ fn adder(alloc: Global, name: &[u8], first: u32) -> Result<Program, NoMemory>
     })
 }
 
+fn adders(alloc: Global) -> Result<List<Program>, NoMemory>
+    ensures { IfOk result (λ programs. programs ≡ two_adders.programs) }
+{
+    let programs = with(List::new(alloc), adder(alloc, b"a", 4)?)?;
+    with(programs, adder(alloc, b"b", 11)?)
+}
+
+fn output_setting(alloc: Global) -> Result<Setting, NoMemory>
+    ensures { IfOk result (λ setting. setting ≡ two_adders.setting) }
+{
+    let channels = with(List::new(alloc), Channel::Output { port: None })?;
+    Ok(Setting {
+        memory: 0,
+        channels,
+    })
+}
+
 fn two_adders(alloc: Global) -> Result<Bundle, NoMemory>
     ensures { IfOk result (λ bundle. bundle ≡ two_adders) }
 {
-    let programs = with(List::new(alloc), adder(alloc, b"a", 4)?)?;
+    let names = with(List::new(alloc), name_of(alloc, b"out")?)?;
     Ok(Bundle {
         file: 4,
-        setting: Setting {
-            memory: 0,
-            channels: with(List::new(alloc), Channel::Output { port: None })?,
-        },
-        names: with(List::new(alloc), name_of(alloc, b"out")?)?,
-        programs: with(programs, adder(alloc, b"b", 11)?)?,
+        setting: output_setting(alloc)?,
+        names,
+        programs: adders(alloc)?,
     })
 }
 
