@@ -51,6 +51,7 @@ start_of (suc n) (suc c) k h = start_of n c k h
 -- every context stands at its first word
 at_first_words : (m : Image) (bound : ℕ) → IsFormedImage m → IsSound m (opening_core m.setting (length m.contexts) bound) (replicate (length m.contexts) (record { at = 0; pending = None }))
 at_first_words m bound formed = record {
+  few = subst (λ n. n ≤ 8) (sym (length-replicate (length m.contexts) (let s : ContextPlace = record { at = 0; pending = None } in s))) formed.few;
   as_many = length-replicate (length m.contexts) (let s : ContextPlace = record { at = 0; pending = None } in s) ∙ sym (length-replicate (length m.contexts) Ready);
   as_many_words = sym (length-replicate (length m.contexts) Ready);
   each = λ c code k is_code is_k.

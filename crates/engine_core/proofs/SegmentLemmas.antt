@@ -91,6 +91,7 @@ segment_is image core core1 core2 file file1 file2 ks c left k words received se
 -- the engine stays sound where a context comes to a place within its words
 pub stays_sound : (image : Image) (core core' : Core) (ks : List ContextPlace) (c : ℕ) (k0 k : ContextPlace) → IsSound image core ks → slice_get ks c ≡ Some k0 → length core'.phases ≡ length core.phases → ((code : Code) → slice_get image.contexts c ≡ Some code → k.at ≤ length code.words) → IsSound image core' (slice_set ks c k)
 stays_sound image core core' ks c k0 k s old same placed = record {
+  few = subst (λ n. n ≤ 8) (sym (length-set ks c k)) s.few;
   as_many = length-set ks c k ∙ s.as_many ∙ sym same;
   as_many_words = s.as_many_words ∙ sym same;
   each = λ d code kd is_code is_k. elim (cases_eq d c) [

@@ -33,6 +33,7 @@ pub record IsContext (code : Code) (k : ContextPlace) : Type 0 where
   pub within : k.at ≤ length code.words
 
 pub record IsSound (image : Image) (core : Core) (contexts : List ContextPlace) : Type 0 where
+  pub few : length contexts ≤ 8
   pub as_many : length contexts ≡ length core.phases
   pub as_many_words : length image.contexts ≡ length core.phases
   pub each : (c : ℕ) (code : Code) (k : ContextPlace) → slice_get image.contexts c ≡ Some code → slice_get contexts c ≡ Some k → IsContext code k

@@ -65,10 +65,11 @@ impl Engine {
     }
 
     /// The number of contexts.
-    pub fn contexts(&self) -> usize
-        ensures { result ≡ length self.now.core.phases }
+    pub fn contexts(&self) -> u32
+        ensures number { result ≡ length self.now.core.phases }
+        ensures small { result ≤ 8 }
     {
-        self.core.contexts()
+        self.contexts.len() as u32
     }
 
     /// Whether a context can go on; false where there is none of this number.
