@@ -1,1 +1,4 @@
 pub mod RoundRuns
+pub mod StatusCodes
+pub mod Lines
+pub mod Answers
