@@ -1,1 +1,4 @@
+pub mod Finishing
+pub mod Replies
+pub mod Reports
 pub mod Turns

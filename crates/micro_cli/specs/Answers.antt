@@ -37,9 +37,8 @@ status_of ending.Idle phases = status.Idle
 abbrev pub default_bound : ℕ
 default_bound = 100000
 
--- the text is the report of a run of this image of this bundle: its journal is legal and in round order, and it has an
--- ending; and the image does what the bundle does, for every bound and every list of events
-pub record IsRunReport (b : Bundle) (m : Image) (need : ℕ) (answer : Status) (text : List ℕ) : Type 0 where
+-- the text is the report of a run of this image: its journal is legal and in round order, and it has an ending
+pub record IsReport (m : Image) (need : ℕ) (answer : Status) (text : List ℕ) : Type 0 where
   pub entries : List Entry
   pub last : Moment Machine
   pub end : End
@@ -48,14 +47,15 @@ pub record IsRunReport (b : Bundle) (m : Image) (need : ℕ) (answer : Status) (
   pub ended : ending_of last.core ≡ Some end
   pub answered : answer ≡ status_of end last.core.phases
   pub reported : text ≡ report_text (Some need) (Some m) m.setting.channels entries (record { view = shown_core last.core; file = Some last.state.file; ending = Some end })
-  pub same : Implements m b
 
--- the input spells a bundle that fits, and the text is the report of its run
+-- the input spells a bundle that fits, and the text is the report of the run of its image; which does what the bundle does,
+-- for every bound and every list of events
 pub record Runs (input : List ℕ) (answer : Status) (text : List ℕ) : Type 0 where
   pub bundle : Bundle
   pub spelt : straight_bundle input ≡ Some bundle
   pub fits : sliced_need bundle ≤ bundle.file
-  pub report : IsRunReport bundle (sliced_image bundle) (sliced_need bundle) answer text
+  pub same : Implements (sliced_image bundle) bundle
+  pub report : IsReport (sliced_image bundle) (sliced_need bundle) answer text
 
 -- the input spells a bundle whose need is above the file
 pub record DoesNotFit (input : List ℕ) (text : List ℕ) : Type 0 where
@@ -86,14 +86,12 @@ pub record IsTooLong (left left' : Option (List ℕ)) : Type 0 where
   pub given : Gives left taken left'
   pub above : length taken ≡ input_limit + 1
 
+-- what is asked to be written for an input
+abbrev pub AsksOfInput : Status → Option (List ℕ) → Option (List ℕ) → List ℕ → Type 0
+AsksOfInput status.TooLong left left' text = IsTooLong left left' × (text ≡ too_long_line)
+AsksOfInput answer left left' text = SaysOfInput answer left left' text
+
 -- what a call asks to be written, from its words and the bytes that its input had left before and has left after
 abbrev pub Asks : Status → List (List ℕ) → Option (List ℕ) → Option (List ℕ) → List ℕ → Type 0
 Asks status.Usage words left left' text = (asks_run words ≡ false) × (left' ≡ left) × (text ≡ usage_line)
-Asks status.TooLong words left left' text = (asks_run words ≡ true) × IsTooLong left left' × (text ≡ too_long_line)
-Asks status.BadBundle words left left' text = (asks_run words ≡ true) × SaysOfInput status.BadBundle left left' text
-Asks status.NoFit words left left' text = (asks_run words ≡ true) × SaysOfInput status.NoFit left left' text
-Asks status.Done words left left' text = (asks_run words ≡ true) × SaysOfInput status.Done left left' text
-Asks status.Trapped words left left' text = (asks_run words ≡ true) × SaysOfInput status.Trapped left left' text
-Asks status.Stuck words left left' text = (asks_run words ≡ true) × SaysOfInput status.Stuck left left' text
-Asks status.Bound words left left' text = (asks_run words ≡ true) × SaysOfInput status.Bound left left' text
-Asks _ words left left' text = ⊥
+Asks answer words left left' text = (asks_run words ≡ true) × AsksOfInput answer left left' text

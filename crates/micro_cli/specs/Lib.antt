@@ -2,3 +2,4 @@ pub mod RoundRuns
 pub mod StatusCodes
 pub mod Lines
 pub mod Answers
+pub mod Calls

@@ -1,4 +1,12 @@
 //! The commands: from the words and the input to the output and the status.
 #![tactic(auto)]
 
+mod call;
+mod command;
+mod lines;
 mod rounds;
+mod runs;
+mod status;
+
+pub use call::plain_call;
+pub use status::Status;

@@ -1,0 +1,58 @@
+//! The lines of refusals.
+
+ghost use Rattle.std.specs.Prelude.{◌≡◌, ◌++◌, IfOk, OnOk};
+ghost use Rattle.micro_cli.specs.Lines.{usage_line, too_long_line, bad_bundle_line, no_fit_line};
+
+use micro_isa::NoMemory;
+use micro_kit::put_number;
+use std::alloc::Global;
+
+pub(crate) fn usage_line(alloc: Global) -> Result<Vec<u8>, NoMemory>
+    ensures { IfOk result (λ line. line.items ≡ usage_line) }
+{
+    text_of(
+        alloc,
+        b"usage: micro COMMAND [NUMBER] [--steps N] [--order round|threads]\n",
+    )
+}
+
+pub(crate) fn too_long_line(alloc: Global) -> Result<Vec<u8>, NoMemory>
+    ensures { IfOk result (λ line. line.items ≡ too_long_line) }
+{
+    text_of(alloc, b"toolong 1048576\n")
+}
+
+pub(crate) fn bad_bundle_line(alloc: Global) -> Result<Vec<u8>, NoMemory>
+    ensures { IfOk result (λ line. line.items ≡ bad_bundle_line) }
+{
+    text_of(alloc, b"bundle later\n")
+}
+
+pub(crate) fn no_fit_line(alloc: Global, need: u32, file: u32) -> Result<Vec<u8>, NoMemory>
+    ensures { IfOk result (λ line. line.items ≡ no_fit_line need file) }
+{
+    let mut line = text_of(alloc, b"nofit need ")?;
+    put_number(&mut line, need)?;
+    put_text(&mut line, b" file ")?;
+    put_number(&mut line, file)?;
+    put_text(&mut line, b"\n")?;
+    Ok(line)
+}
+
+fn text_of(alloc: Global, bytes: &[u8]) -> Result<Vec<u8>, NoMemory>
+    ensures { IfOk result (λ text. text.items ≡ bytes.now) }
+{
+    match Vec::from_slice(alloc, bytes) {
+        Ok(text) => Ok(text),
+        Err(_) => Err(NoMemory),
+    }
+}
+
+fn put_text(text: &mut Vec<u8>, bytes: &[u8]) -> Result<(), NoMemory>
+    ensures { OnOk result (text.new.items ≡ text.old.items ++ bytes.now) }
+{
+    match text.extend_from_slice(bytes) {
+        Ok(()) => Ok(()),
+        Err(_) => Err(NoMemory),
+    }
+}
