@@ -1,13 +1,12 @@
 -- The small bundle is formed, and its file is as large as its sliced image needs.
-use Rattle.std.proofs.Common.{◌≡◌, ℕ, zero, suc, ◌-◌, ◌≤◌, List, [], ◌∷◌, length, map, Some, Bool, true, refl, sym, subst, arith}
-use Rattle.std.specs.Prelude.{slice_get}
+use Rattle.std.proofs.Common.{◌≡◌, ℕ, zero, suc, ◌≤◌, List, [], ◌∷◌, map, Bool, true, refl, sym, subst, arith}
 use Rattle.std.specs.List.{list_all}
 use Rattle.std.proofs.lemmas.Option.{same_Some}
 use Rattle.micro_isa.specs.declared.program.Line.{Line}
 use Rattle.micro_isa.specs.declared.program.Program.{Program}
 use Rattle.micro_isa.specs.declared.program.Bundle.{Bundle}
 use Rattle.micro_isa.specs.Formed.{Each, names_below, is_labelled, target_of, always_rises, never_falls, fits_channels, IsFormedProgram, IsFormedSetting, IsFormedBundle}
-use Rattle.sliced_image.specs.Example.{x, y, adder, lines_of, two_adders}
+use Rattle.sliced_image.specs.Example.{adder, lines_of, two_adders}
 use Rattle.sliced_image.specs.Sliced.{sliced_need}
 use Rattle.sliced_image.proofs.Fitting.{and_left, and_right}
 

@@ -6,7 +6,6 @@ use Rattle.micro_isa.specs.declared.program.VReg.{VReg}
 use Rattle.micro_isa.specs.declared.program.Line.{Line}
 use Rattle.micro_isa.specs.declared.program.Program.{Program}
 use Rattle.micro_isa.specs.declared.program.Channel.TheVariants.{Output}
-use Rattle.micro_isa.specs.declared.program.Setting.{Setting}
 use Rattle.micro_isa.specs.declared.program.Bundle.{Bundle}
 
 abbrev pub x : VReg
