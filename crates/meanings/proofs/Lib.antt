@@ -1,2 +1,3 @@
 pub mod Simulation
 pub mod Waiting
+pub mod Histories

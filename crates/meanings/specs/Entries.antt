@@ -1,12 +1,12 @@
 -- The journal of a run: its events with the steps and the end of each segment.
-use Rattle.std.specs.Prelude.{◌≡◌, ℕ, List, [], ◌∷◌, map, Option, Some, None}
+use Rattle.std.specs.Prelude.{◌≡◌, ℕ, List, [], ◌∷◌, Some}
 use Rattle.world.specs.declared.event.Event.{Event}
 use Rattle.world.specs.declared.event.Event.TheVariants as event
 use Rattle.world.specs.declared.event.Seen.{Seen}
 use Rattle.world.specs.declared.event.Seen.TheVariants as seen
 use Rattle.world.specs.declared.event.Entry.{Entry}
 use Rattle.world.specs.declared.event.Entry.TheVariants as entry
-use Rattle.meanings.specs.Events.{Side, Moment, run}
+use Rattle.meanings.specs.Events.{Side, Moment, step}
 
 -- the event of an entry
 abbrev pub event_of : Entry → Event
@@ -24,13 +24,9 @@ entry_seen (entry.Ran c steps end) s = ran_entry c s (entry.Ran c steps end)
 entry_seen (entry.Fed k word) s = entry.Fed k word
 entry_seen (entry.Unplugged k) s = entry.Unplugged k
 
-abbrev pub entries_seen : List Entry → List Seen → List Entry
-entries_seen (e ∷ es) (s ∷ ss) = entry_seen e s ∷ entries_seen es ss
-entries_seen _ _ = []
-
--- the entries are legal from this moment on and lead to that one: their events may happen, one after another, and each
--- segment has the steps and the end that its entry tells
-pub record IsLegal {X : Type 0} (side : Side X) (opening : Moment X) (entries : List Entry) (last : Moment X) : Type 0 where
-  pub seen : List Seen
-  pub happened : run side opening (map event_of entries) ≡ Some (last, seen)
-  pub told : entries_seen entries seen ≡ entries
+-- the entries are legal from a moment on and lead to another: one after another their events may happen, and each segment
+-- has the steps and the end that its entry tells
+abbrev pub LeadsTo : {X : Type 0} → Side X → Moment X → List Entry → Moment X → Type 0
+LeadsTo side m [] last = m ≡ last
+LeadsTo {X} side m (e ∷ es) last =
+    (next : Moment X) × (s : Seen) × (step side m (event_of e) ≡ Some (next, s)) × (entry_seen e s ≡ e) × LeadsTo side next es last

@@ -5,3 +5,4 @@ pub mod Source
 pub mod Machine
 pub mod Agreement
 pub mod Entries
+pub mod Rounds

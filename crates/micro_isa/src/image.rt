@@ -1,6 +1,9 @@
+ghost use Rattle.std.specs.Prelude.{◌≡◌, IfOk};
+
 use crate::instr::Instr;
-use crate::list::List;
+use crate::list::{List, NoMemory};
 use crate::program::Setting;
+use std::alloc::Global;
 
 /// A register of the file.
 #[derive(Clone, Copy, Debug, PartialEq, Eq)]
@@ -22,18 +25,58 @@ pub struct Range {
 }
 
 /// The words of a context, and the registers that it alone may write.
-#[derive(Clone, Debug, Drop, PartialEq)]
+#[derive(Debug, Drop, PartialEq)]
 pub struct Code {
     pub private: Range,
     pub words: List<Word>,
 }
 
+impl Code {
+    pub fn copy(&self, alloc: Global) -> Result<Code, NoMemory>
+        ensures { IfOk result (λ copy. copy ≡ self.now) }
+    {
+        let words = self.words.copy(alloc)?;
+        Ok(Code {
+            private: self.private,
+            words,
+        })
+    }
+}
+
 /// What the engine runs: the size of the file, the setting, the registers that all contexts may
 /// write, and the contexts.
-#[derive(Clone, Debug, Drop, PartialEq)]
+#[derive(Debug, Drop, PartialEq)]
 pub struct Image {
     pub file: u32,
     pub setting: Setting,
     pub shared: Range,
     pub contexts: List<Code>,
+}
+
+impl Image {
+    pub fn copy(&self, alloc: Global) -> Result<Image, NoMemory>
+        ensures { IfOk result (λ copy. copy ≡ self.now) }
+    {
+        let setting = self.setting.copy(alloc)?;
+        let contexts = copied_contexts(alloc, self.contexts.as_slice())?;
+        Ok(Image {
+            file: self.file,
+            setting,
+            shared: self.shared,
+            contexts,
+        })
+    }
+}
+
+fn copied_contexts(alloc: Global, contexts: &[Code]) -> Result<List<Code>, NoMemory>
+    ensures { IfOk result (λ copies. copies ≡ contexts.now) }
+{
+    let mut copies = List::new(alloc);
+    for code in contexts {
+        let code = code.copy(alloc)?;
+        if copies.push(code).is_err() {
+            return Err(NoMemory);
+        }
+    }
+    Ok(copies)
 }

@@ -1,6 +1,9 @@
+ghost use Rattle.std.specs.Prelude.{◌≡◌, IfOk};
+
 use crate::instr::Instr;
-use crate::list::List;
+use crate::list::{List, NoMemory};
 use crate::name::Name;
+use std::alloc::Global;
 
 /// A register of a source context, by its number there.
 #[derive(Clone, Copy, Debug, PartialEq, Eq)]
@@ -37,7 +40,7 @@ pub struct PortUse {
 }
 
 /// A channel of the engine.
-#[derive(Clone, Debug, Drop, PartialEq)]
+#[derive(Debug, Drop, PartialEq)]
 pub enum Channel {
     /// Words that contexts send to each other, at most `capacity` at a time.
     Inner {
@@ -54,11 +57,46 @@ pub enum Channel {
     },
 }
 
+impl Channel {
+    pub fn copy(&self, alloc: Global) -> Result<Channel, NoMemory>
+        ensures { IfOk result (λ copy. copy ≡ self.now) }
+    {
+        match self {
+            Channel::Inner { capacity } => Ok(Channel::Inner {
+                capacity: *capacity,
+            }),
+            Channel::Input { words, port } => {
+                let words = words.copy(alloc)?;
+                Ok(Channel::Input { words, port: *port })
+            }
+            Channel::Output { port } => Ok(Channel::Output { port: *port }),
+        }
+    }
+}
+
 /// What the contexts of an engine share beside its registers. `memory` is a number of words.
-#[derive(Clone, Debug, Drop, PartialEq)]
+#[derive(Debug, Drop, PartialEq)]
 pub struct Setting {
     pub memory: u32,
     pub channels: List<Channel>,
+}
+
+impl Setting {
+    pub fn copy(&self, alloc: Global) -> Result<Setting, NoMemory>
+        ensures { IfOk result (λ copy. copy ≡ self.now) }
+    {
+        let mut channels = List::new(alloc);
+        for channel in self.channels.as_slice() {
+            let channel = channel.copy(alloc)?;
+            if channels.push(channel).is_err() {
+                return Err(NoMemory);
+            }
+        }
+        Ok(Setting {
+            memory: self.memory,
+            channels,
+        })
+    }
 }
 
 /// A whole source text: the size of the file, the setting, the channels' names and a program a context.

@@ -6,7 +6,7 @@ ghost use Rattle.meanings.specs.Agreement.{Implements};
 ghost use Rattle.sliced_image.specs.Sliced.{private_slice, codes_from, last_slice, registers_of, sliced_need, sliced_image, AllFit};
 
 use crate::words::sliced_words;
-use micro_isa::{Bundle, Code, Image, List, NoMemory, Program, Range, Setting};
+use micro_isa::{Bundle, Code, Image, List, NoMemory, Program, Range};
 use std::alloc::Global;
 
 /// How many registers the contexts of a bundle name in all: the least file for its sliced image.
@@ -36,7 +36,7 @@ fn image_of(alloc: Global, bundle: &Bundle) -> Result<Image, NoMemory>
     requires room { registers_of bundle.now.programs ≤ 128 }
     ensures { IfOk result (λ image. image ≡ sliced_image bundle.now) }
 {
-    let setting = setting_of(bundle)?;
+    let setting = bundle.setting.copy(alloc)?;
     let contexts = codes_of(alloc, bundle.programs.as_slice())?;
     Ok(Image {
         file: bundle.file,
@@ -44,15 +44,6 @@ fn image_of(alloc: Global, bundle: &Bundle) -> Result<Image, NoMemory>
         shared: last_slice(bundle.programs.as_slice()),
         contexts,
     })
-}
-
-fn setting_of(bundle: &Bundle) -> Result<Setting, NoMemory>
-    ensures { IfOk result (λ setting. setting ≡ bundle.now.setting) }
-{
-    match bundle.setting.clone() {
-        Ok(setting) => Ok(setting),
-        Err(_) => Err(NoMemory),
-    }
 }
 
 fn need_of(programs: &[Program]) -> u32

@@ -1,6 +1,7 @@
 ghost use Rattle.std.specs.Prelude.{◌≡◌, ◌<◌, ◌↔◌, IfOk, IfErr, IsOk, Some, true, length, map, option_map, replicate, slice_get, slice_set};
 ghost use Rattle.world.specs.WorldState.{can_receive, can_send, can_feed, is_plugged, received_from, after_receive, after_send, put_out, after_feed, after_unplug, has_open_input, changed_at, holds_at, is_open_input};
 ghost use Rattle.std.specs.List.{list_any};
+ghost use Rattle.std.specs.Option.{option_copied};
 ghost use Rattle.world.specs.Opening.{opening_world, opened_channel};
 ghost use Rattle.world.specs.Views.{view_of, loaded};
 ghost use Rattle.world.specs.Channels.{has_room, with_word};
@@ -69,6 +70,20 @@ impl World {
             steps,
             phases,
         })
+    }
+
+    /// How many words may be put out, which is the bound of the run's steps.
+    pub fn bound(&self) -> u32
+        ensures { result ≡ self.now.bound }
+    {
+        self.bound
+    }
+
+    /// A channel by its number; none where there is no such channel.
+    pub fn channel(&self, channel: u8) -> Option<&ChannelQueue>
+        ensures { option_copied result ≡ slice_get self.now.channels channel }
+    {
+        self.channels.get(channel as usize)
     }
 
     /// The number of words of memory.

@@ -1,0 +1,247 @@
+ghost use Rattle.std.specs.Prelude.{◌≡◌, ◌+◌, ◌≤◌, IfOk, None, length, replicate};
+ghost use Rattle.micro_isa.specs.Formed.{IsFormedImage};
+ghost use Rattle.world.specs.WorldState.{can_feed, is_plugged};
+ghost use Rattle.world.specs.declared.event.Event.TheVariants.{Run as RunOf, Feed as FeedOf, Unplug as UnplugOf};
+ghost use Rattle.world.specs.declared.event.Seen.TheVariants.{Ran as RanOf, Fed as FedOf, Unplugged as UnpluggedOf};
+ghost use Rattle.meanings.specs.Core.{illegal_of, is_runnable, ending_of, shown_core, steps_left};
+ghost use Rattle.meanings.specs.Events.{happens};
+ghost use Rattle.meanings.specs.Machine.{machine_side, machine_open, received_word, words_of};
+ghost use Rattle.engine_core.specs.EngineState.{moment_of, IsSound};
+ghost use Rattle.engine_core.specs.Segments.{GoesOn};
+
+use crate::place::ContextPlace;
+use crate::words::{advance, write};
+use micro_isa::{Image, NoMemory, PReg, Word};
+use run_core::RunCore;
+use std::alloc::Global;
+use std::marker::Model;
+use world::{End, Event, Illegal, Output, Segment, View};
+
+/// A run of an image. Opening it takes all the memory that it will need; only `view` takes more.
+#[derive(Drop)]
+pub struct Engine {
+    image: Image,
+    core: RunCore,
+    file: Vec<u32>,
+    contexts: Vec<ContextPlace>,
+}
+
+impl Model for Engine {
+    ghost use Rattle.engine_core.specs.EngineState.{EngineState, IsSound};
+
+    ghost Value = { EngineState };
+
+    ghost view = { λ e. record { image = e.image; core = e.core; file = e.file.items; contexts = e.contexts.items } };
+
+    ghost invariant = { λ e. IsSound e.image e.core e.contexts.items };
+}
+
+impl Engine {
+    /// The opening of a formed image, to be run for at most `bound` steps. The engine keeps a copy
+    /// of the image.
+    pub fn open(alloc: Global, image: &Image, bound: u32) -> Result<Engine, NoMemory>
+        requires formed { IsFormedImage image.now }
+        requires bound { bound ≤ 1048576 }
+        ensures image { IfOk result (λ engine. engine.image ≡ image.now) }
+        ensures opening { IfOk result (λ engine. moment_of engine ≡ machine_open image.now bound) }
+    {
+        let core = RunCore::open(alloc, &image.setting, image.contexts.len(), bound)?;
+        let file = zeros(alloc, image.file)?;
+        let contexts = starts(alloc, image.contexts.len())?;
+        let image = image.copy(alloc)?;
+        Ok(Engine {
+            image,
+            core,
+            file,
+            contexts,
+        })
+    }
+
+    /// The first cause for which an event may not happen.
+    pub fn illegal(&self, event: Event) -> Option<Illegal>
+        ensures { result ≡ illegal_of self.now.core event }
+    {
+        self.core.illegal(event)
+    }
+
+    /// The number of contexts.
+    pub fn contexts(&self) -> usize
+        ensures { result ≡ length self.now.core.phases }
+    {
+        self.core.contexts()
+    }
+
+    /// Whether a context can go on; false where there is none of this number.
+    pub fn runnable(&self, context: u32) -> bool
+        ensures { result ≡ is_runnable self.now.core context }
+    {
+        self.core.is_runnable(context)
+    }
+
+    /// How the run ended, if it did: cut by the bound, finished, or stuck.
+    pub fn ending(&self) -> Option<End>
+        ensures { result ≡ ending_of self.now.core }
+    {
+        self.core.ending()
+    }
+
+    /// What the run shows.
+    pub fn view(&self, alloc: Global) -> Result<View, NoMemory>
+        ensures { IfOk result (λ view. view ≡ shown_core self.now.core) }
+    {
+        self.core.view(alloc)
+    }
+
+    /// The registers of the file.
+    pub fn file(&self) -> &[u32]
+        ensures { result.now ≡ self.now.file }
+    {
+        self.file.as_slice()
+    }
+
+    pub fn image(&self) -> &Image
+        ensures { result.now ≡ self.now.image }
+    {
+        &self.image
+    }
+
+    /// The words that were put out, in order.
+    pub fn outputs(&self) -> &[Output]
+        ensures { result.now ≡ self.now.core.world.outputs }
+    {
+        self.core.outputs()
+    }
+
+    /// The steps that are left.
+    pub fn steps_left(&self) -> u32
+        ensures left { result ≡ steps_left self.now.core }
+        ensures fits { self.now.core.steps + result ≡ self.now.core.world.bound }
+    {
+        self.core.steps_left()
+    }
+
+    /// Whether a word can be fed to a channel.
+    pub fn can_feed(&self, channel: u8) -> bool
+        ensures { result ≡ can_feed self.now.core.world channel }
+    {
+        self.core.can_feed(channel)
+    }
+
+    /// Whether the port of a channel is plugged.
+    pub fn plugged(&self, channel: u8) -> bool
+        ensures { result ≡ is_plugged self.now.core.world channel }
+    {
+        self.core.plugged(channel)
+    }
+
+    /// One segment of a context that may run: the completion of what it waits for, and its words up
+    /// to the next stop.
+    pub fn segment(&mut self, context: u32) -> Segment
+        requires legal { illegal_of self.old.core (RunOf context) ≡ None }
+        ensures image { self.new.image ≡ self.old.image }
+        ensures happens { happens (machine_side self.old.image) (moment_of self.old) (RunOf context) ≡ (moment_of self.new, RanOf result) }
+        ensures goes_on { GoesOn self.old.core self.new.core }
+    {
+        segment_of(
+            &self.image,
+            &mut self.core,
+            &mut self.file,
+            &mut self.contexts,
+            context,
+        )
+    }
+
+    /// Feeds a word to an input.
+    pub fn feed(&mut self, channel: u8, word: u32)
+        requires legal { illegal_of self.old.core (FeedOf channel word) ≡ None }
+        ensures image { self.new.image ≡ self.old.image }
+        ensures happens { happens (machine_side self.old.image) (moment_of self.old) (FeedOf channel word) ≡ (moment_of self.new, FedOf) }
+    {
+        self.core.feed(channel, word);
+    }
+
+    /// Unplugs the port of a channel.
+    pub fn unplug(&mut self, channel: u8)
+        requires legal { illegal_of self.old.core (UnplugOf channel) ≡ None }
+        ensures image { self.new.image ≡ self.old.image }
+        ensures happens { happens (machine_side self.old.image) (moment_of self.old) (UnplugOf channel) ≡ (moment_of self.new, UnpluggedOf) }
+    {
+        self.core.unplug(channel);
+    }
+}
+
+fn zeros(alloc: Global, size: u32) -> Result<Vec<u32>, NoMemory>
+    ensures { IfOk result (λ file. file.items ≡ replicate size 0) }
+{
+    match vec![in alloc; 0; size as usize] {
+        Ok(file) => Ok(file),
+        Err(_) => Err(NoMemory),
+    }
+}
+
+fn starts(alloc: Global, contexts: usize) -> Result<Vec<ContextPlace>, NoMemory>
+    ensures { IfOk result (λ places. places.items ≡ replicate contexts (record { at = 0; pending = None })) }
+{
+    let start = ContextPlace {
+        at: 0,
+        pending: None,
+    };
+    match vec![in alloc; start; contexts] {
+        Ok(places) => Ok(places),
+        Err(_) => Err(NoMemory),
+    }
+}
+
+fn segment_of(
+    image: &Image,
+    core: &mut RunCore,
+    file: &mut [u32],
+    contexts: &mut [ContextPlace],
+    context: u32,
+) -> Segment
+    requires sound { IsSound image.now core.old contexts.old }
+    requires legal { illegal_of core.old (RunOf context) ≡ None }
+    ensures sound { IsSound image.now core.new contexts.new }
+    ensures goes_on { GoesOn core.old core.new }
+    ensures happens { happens (machine_side image.now) (moment_of (record { image = image.now; core = core.old; file = file.old; contexts = contexts.old })) (RunOf context)
+        ≡ (moment_of (record { image = image.now; core = core.new; file = file.new; contexts = contexts.new }), RanOf result) }
+{
+    let done = core.complete(context);
+    let place = contexts[context as usize];
+    let pending = deliver(file, place.at, place.pending, done.received);
+    let left = core.steps_left();
+    let words = words_of(image, context);
+    let ended = advance(context, words, file, place.at, pending, left);
+    contexts[context as usize] = ContextPlace {
+        at: ended.at,
+        pending: ended.pending,
+    };
+    let end = core.finish(context, ended.steps, ended.why);
+    Segment {
+        steps: ended.steps,
+        end,
+        sent: done.sent,
+    }
+}
+
+fn words_of(image: &Image, context: u32) -> &[Word]
+    ensures { result.now ≡ words_of image.now context }
+{
+    match image.contexts.get(context as usize) {
+        Some(code) => code.words.as_slice(),
+        None => &[],
+    }
+}
+
+/// Hands the word of a completion to the register that waits for it.
+fn deliver(file: &mut [u32], at: u32, pending: Option<PReg>, received: Option<u32>) -> Option<PReg>
+    ensures { record { at = at; file = file.new; pending = result } ≡ received_word (record { at = at; file = file.old; pending = pending }) pending received }
+{
+    match (pending, received) {
+        (Some(register), Some(word)) => {
+            write(file, register, word);
+            None
+        }
+        _ => pending,
+    }
+}

@@ -1,0 +1,10 @@
+//! The engine: it runs the words of an image, each of which does what its instruction says on the
+//! one register file.
+#![tactic(auto)]
+
+mod engine;
+mod place;
+mod words;
+
+pub use engine::Engine;
+pub use place::ContextPlace;

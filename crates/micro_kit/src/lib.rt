@@ -1,0 +1,17 @@
+//! Where bytes come from and where they go, with counts of faults, and numbers as text.
+#![tactic(auto)]
+
+mod memory;
+mod number;
+mod standard;
+mod stream;
+mod whole;
+
+pub use memory::{MemSink, MemSource};
+pub use number::{put_number, read_number};
+pub use standard::{StdSink, StdSource};
+pub use stream::{Got, Put, Sink, Source};
+pub use whole::{ReadFault, WriteFault, read_all, write_all};
+
+#[cfg(test)]
+mod tests;
