@@ -1,13 +1,17 @@
 -- The small bundle is formed, and its file is as large as its sliced image needs.
-use Rattle.std.proofs.Common.{◌≡◌, ℕ, zero, suc, ◌-◌, ◌≤◌, List, [], ◌∷◌, length, map, Some, Bool, true, refl, sym, subst, arith}
-use Rattle.std.specs.Prelude.{slice_get}
+use Rattle.std.proofs.Common.{◌≡◌, ◌∙◌, ℕ, zero, suc, ◌≤◌, List, [], ◌∷◌, map, Some, Bool, true, refl, sym, subst, arith}
 use Rattle.std.specs.List.{list_all}
 use Rattle.std.proofs.lemmas.Option.{same_Some}
 use Rattle.micro_isa.specs.declared.program.Line.{Line}
 use Rattle.micro_isa.specs.declared.program.Program.{Program}
 use Rattle.micro_isa.specs.declared.program.Bundle.{Bundle}
+use Rattle.micro_isa.specs.declared.image.Image.{Image}
 use Rattle.micro_isa.specs.Formed.{Each, names_below, is_labelled, target_of, always_rises, never_falls, fits_channels, IsFormedProgram, IsFormedSetting, IsFormedBundle}
-use Rattle.sliced_image.specs.Example.{x, y, adder, lines_of, two_adders}
+use Rattle.meanings.specs.Events.{run}
+use Rattle.meanings.specs.Source.{source_side, source_open}
+use Rattle.meanings.specs.Machine.{machine_side, machine_open}
+use Rattle.meanings.specs.Agreement.{shown, Implements}
+use Rattle.sliced_image.specs.Example.{adder, lines_of, two_adders, turns, both_sums}
 use Rattle.sliced_image.specs.Sliced.{sliced_need}
 use Rattle.sliced_image.proofs.Fitting.{and_left, and_right}
 
@@ -68,3 +72,11 @@ formed = record {
 
 pub two_adders_formed : (b : Bundle) → b ≡ two_adders → IsFormedBundle b × (sliced_need b ≤ b.file)
 two_adders_formed b e = subst (λ k. IsFormedBundle k × (sliced_need k ≤ k.file)) (sym e) (formed, omega arith)
+
+-- the source runs to its end, so agreement with it says something
+bundle_run : shown (run (source_side two_adders) (source_open two_adders 100) turns) ≡ Some both_sums
+bundle_run = refl
+
+pub image_run : (b : Bundle) (m : Image) → b ≡ two_adders → Implements m b → shown (run (machine_side m) (machine_open m 100) turns) ≡ Some both_sums
+image_run b m e same =
+    same.same 100 turns ∙ (λ i. shown (run (source_side (e i)) (source_open (e i) 100) turns)) ∙ bundle_run

@@ -1,6 +1,6 @@
 -- Counted words that rename a context's registers do what its instructions do.
 use Rattle.std.proofs.Common.{◌≡◌, ◌≢◌, ℕ, zero, suc, ◌+◌, ◌<◌, List, [], ◌∷◌, map, drop, length, Option, Some, None, Bool, true, false, refl, sym, ap, ◌∙◌, subst, get_or-set_same, get_or-set_other, length-set}
-use Rattle.std.specs.Prelude.{slice_get, slice_set, slice_index, option_map, ◌==◌, if◌then◌else◌}
+use Rattle.std.specs.Prelude.{slice_set, slice_index, option_map, ◌==◌, if◌then◌else◌}
 use Rattle.std.proofs.lemmas.List.{drop-map}
 use Rattle.std.proofs.lemmas.Bool.{eqb-true, eqb-false}
 use Rattle.micro_isa.specs.declared.instr.Instr.{Instr}
@@ -10,13 +10,12 @@ use Rattle.micro_isa.specs.declared.program.Line.{Line}
 use Rattle.micro_isa.specs.declared.image.PReg.{PReg}
 use Rattle.micro_isa.specs.declared.image.Word.{Word}
 use Rattle.micro_isa.specs.Arithmetic.{alu_of, test_of, quotient_of}
-use Rattle.meanings.specs.declared.Stop.{Stop}
 use Rattle.meanings.specs.declared.Stop.TheVariants as stop
 use Rattle.meanings.specs.Core.{is_cut}
 use Rattle.meanings.specs.Events.{Gone}
 use Rattle.meanings.specs.Effects.{Numbered, Effect, Onward, Ends, divided, effect_of, effect_at}
-use Rattle.meanings.specs.Source.{SourceContext, put, spent, stretch_on, stretch, numbered_line, source_at}
-use Rattle.meanings.specs.Machine.{Running, read_in, settle, settled, numbered_word, word_at, advance_on, counted_from}
+use Rattle.meanings.specs.Source.{SourceContext, put, spent, stretch_on, stretch, source_at}
+use Rattle.meanings.specs.Machine.{Running, read_in, settle, settled, word_at, advance_on, counted_from}
 use Rattle.meanings.proofs.Waiting.{FitsStop}
 use Rattle.sliced_image.specs.Sliced.{rename, word_of}
 

@@ -12,10 +12,7 @@ use Rattle.micro_isa.specs.declared.program.Channel.{Channel}
 use Rattle.micro_isa.specs.declared.program.Line.{Line}
 use Rattle.micro_isa.specs.declared.program.Program.{Program}
 use Rattle.micro_isa.specs.declared.program.Bundle.{Bundle}
-use Rattle.micro_isa.specs.declared.image.PReg.{PReg}
-use Rattle.micro_isa.specs.declared.image.Word.{Word}
 use Rattle.micro_isa.specs.declared.image.Range.{Range}
-use Rattle.micro_isa.specs.declared.image.Code.{Code}
 use Rattle.micro_isa.specs.declared.image.Image.{Image}
 use Rattle.micro_isa.specs.Columns.{written_by}
 use Rattle.micro_isa.specs.Formed.{Each, registers_in, target_of, never_falls, fits_channels, names_below, all_below, option_below, lies_in, are_apart, all_apart, glue_fits, writes_within, IsFormedProgram, IsFormedBundle, IsFormedCode, IsFormedImage}

@@ -1,11 +1,14 @@
 //! The slices of a bundle of two contexts with two registers each.
-ghost use Rattle.std.specs.Prelude.{◌≡◌, ◌∷◌, [], ◌++◌, ◌≤◌, IfOk};
-ghost use Rattle.sliced_image.specs.Example.{adder, lines_of, two_adders};
+ghost use Rattle.std.specs.Prelude.{◌≡◌, ◌∷◌, [], ◌++◌, ◌≤◌, Some, IfOk};
+ghost use Rattle.meanings.specs.Events.{run};
+ghost use Rattle.meanings.specs.Machine.{machine_side, machine_open};
+ghost use Rattle.meanings.specs.Agreement.{shown};
+ghost use Rattle.sliced_image.specs.Example.{adder, lines_of, two_adders, turns, both_sums};
 
 use super::*;
 use micro_isa::{
-    AluOp, Bundle, Channel, Instr, Line, List, Name, NoMemory, PReg, Program, Range, Setting, VReg,
-    Word,
+    AluOp, Bundle, Channel, Image, Instr, Line, List, Name, NoMemory, PReg, Program, Range,
+    Setting, VReg, Word,
 };
 use std::alloc::Global;
 use std::test::Fail;
@@ -127,13 +130,22 @@ fn two_adders(alloc: Global) -> Result<Bundle, NoMemory>
     })
 }
 
+/// The image, whose whole run puts out both sums: agreement with the bundle says something.
+#[tactic(auto, using(crate::proofs::Example::two_adders_formed, crate::proofs::Example::image_run))]
+fn sliced(alloc: Global) -> Result<Image, NoMemory>
+    ensures { IfOk result (λ image. shown (run (machine_side image) (machine_open image 100) turns) ≡ Some both_sums) }
+{
+    let bundle = two_adders(alloc)?;
+    slice_image(alloc, &bundle)
+}
+
 #[test]
 #[tactic(auto, using(crate::proofs::Example::two_adders_formed))]
 fn slices_side_by_side(rt: HostRuntime) {
     let alloc = rt.alloc();
     let bundle = two_adders(alloc).expect(&rt, "ample memory");
     assert_eq!(rt; sliced_need(&bundle), 4);
-    let image = slice_image(alloc, &bundle).expect(&rt, "ample memory");
+    let image = sliced(alloc).expect(&rt, "ample memory");
     assert_eq!(rt; image.shared, Range { start: 2, size: 2 });
     let wanted = [(0, 2, 0, 7), (2, 0, 2, 14)];
     assert_eq!(rt; image.contexts.len(), wanted.len());
