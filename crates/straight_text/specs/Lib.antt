@@ -1,0 +1,5 @@
+pub mod Cutting
+pub mod Reading
+pub mod Shape
+pub mod Steps
+pub mod Views
