@@ -8,7 +8,7 @@ use Rattle.std.specs.Str.{bytes_eq}
 use Rattle.straight_text.specs.Reading.{register_of}
 use Rattle.straight_text.specs.Steps.{Step, registers_in, registers_from, knows, declare}
 
-place_below : (p : List ℕ → Bool) (xs : List (List ℕ)) → list_any p xs ≡ true → position_or_len p xs < length xs
+pub place_below : (p : List ℕ → Bool) (xs : List (List ℕ)) → list_any p xs ≡ true → position_or_len p xs < length xs
 place_below p [] e = absurd (true≢false (sym e))
 place_below p (x ∷ xs) e =
     let go : (b : Bool) → p x ≡ b → position_or_len p (x ∷ xs) < length (x ∷ xs) = λ b. elim b as (λ b. p x ≡ b → position_or_len p (x ∷ xs) < length (x ∷ xs)) [
@@ -23,14 +23,14 @@ register_below names name e =
     let lt = place_below (λ n. bytes_eq name n) names e in
     rw (lt-ltb _ _ lt) lt
 
-same_word : (name : List ℕ) → bytes_eq name name ≡ true
+pub same_word : (name : List ℕ) → bytes_eq name name ≡ true
 same_word name = grind (arith, bytes_eq-Decides)
 
 or_true : (b : Bool) → (b || true) ≡ true
 or_true true = refl
 or_true false = refl
 
-knows_more : (names : List (List ℕ)) (a b : List ℕ) → knows names a ≡ true → knows (declare names b) a ≡ true
+pub knows_more : (names : List (List ℕ)) (a b : List ℕ) → knows names a ≡ true → knows (declare names b) a ≡ true
 knows_more names a b e =
     let P : Bool → Type 0 = λ t. knows (if t then names else names ++ b ∷ []) a ≡ true in
     elim (knows names b) as P [
@@ -38,7 +38,7 @@ knows_more names a b e =
       | false ↦ list_any-append (λ n. bytes_eq a n) names (b ∷ []) ∙ ap (λ t. t || (bytes_eq a b || false)) e
     ]
 
-knows_it : (names : List (List ℕ)) (a : List ℕ) → knows (declare names a) a ≡ true
+pub knows_it : (names : List (List ℕ)) (a : List ℕ) → knows (declare names a) a ≡ true
 knows_it names a =
     let go : (t : Bool) → knows names a ≡ t → knows (if t then names else names ++ a ∷ []) a ≡ true = λ t. elim t as (λ t. knows names a ≡ t → knows (if t then names else names ++ a ∷ []) a ≡ true) [
       | true ↦ λ e. e

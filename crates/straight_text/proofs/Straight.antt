@@ -14,12 +14,12 @@ use Rattle.straight_text.specs.Steps.{Step, Li, Add, Send, step_of, and_then_all
 use Rattle.straight_text.proofs.Known.{register_below, StepsKnown, steps_known, AreKnown}
 
 -- a number of at most 32 bits, where there is one
-abbrev Fits : Step → Type 0
+abbrev pub Fits : Step → Type 0
 Fits (Li to n) = n < 2 ^ 32
 Fits (Add to a b) = Unit {0}
 Fits (Send from) = Unit {0}
 
-abbrev AllFit : List Step → Type 0
+abbrev pub AllFit : List Step → Type 0
 AllFit [] = Unit {0}
 AllFit (s ∷ ss) = Fits s × AllFit ss
 
@@ -57,7 +57,7 @@ step_fits output line =
     (some_if Fits (bytes_eq h.0 (codes "send")) _ _ (some_if Fits (bytes_eq o.0 output) (Some (Send o.1)) None tt tt) tt))))
 
 -- the steps of lines: fewer than these, and with numbers of at most 32 bits
-abbrev Sound : ℕ → List Step → Type 0
+abbrev pub Sound : ℕ → List Step → Type 0
 Sound count steps = AllFit steps × (length steps + 1 ≤ count)
 
 sound_more : (count : ℕ) (s : Option Step) (later : Option (List Step)) → IfSome s Fits → IfSome later (Sound count) → IfSome (and_then_all s later) (Sound (suc count))
@@ -82,7 +82,7 @@ are_steps names n [] known fit = refl
 are_steps names n (s ∷ []) known fit = (step_is names s known.0 fit.0, refl)
 are_steps names n (s ∷ t ∷ ss) known fit = (step_is names s known.0 fit.0, are_steps names (n + 1) (t ∷ ss) known.1 fit.1)
 
-code_length : (names : List (List ℕ)) (n : ℕ) (steps : List Step) → length (code_from names n steps) ≡ length steps + 1
+pub code_length : (names : List (List ℕ)) (n : ℕ) (steps : List Step) → length (code_from names n steps) ≡ length steps + 1
 code_length names n [] = refl
 code_length names n (s ∷ ss) = let ih = code_length names (n + 1) ss in omega (arith, ih)
 
@@ -90,40 +90,33 @@ both_left : (a b : Bool) → (a && b) ≡ true → a ≡ true
 both_left true b e = refl
 both_left false b e = e
 
-registers_straight : (file : ℕ) (output context : List ℕ) (steps : List Step) → (1 ≤ file) × (file ≤ 128) → Sound 2048 steps → IfSome (with_registers file output context steps (registers_from [] steps)) IsStraight
-registers_straight file output context steps size sound =
+-- a fact of each bundle that a text may spell
+abbrev pub OfEach : (Bundle → Type 0) → Type 0
+OfEach P = (file : ℕ) (output context : List ℕ) (steps : List Step) → (1 ≤ file) × (file ≤ 128) → Sound 2048 steps → length (registers_from [] steps) ≤ 128 → P (bundle_with file output (program_of context (registers_from [] steps) steps))
+
+registers_as : (P : Bundle → Type 0) → OfEach P → (file : ℕ) (output context : List ℕ) (steps : List Step) → (1 ≤ file) × (file ≤ 128) → Sound 2048 steps → IfSome (with_registers file output context steps (registers_from [] steps)) P
+registers_as P each file output context steps size sound =
     let names = registers_from [] steps in
     let test = nat_le (length names) 128 && list_all name_test names in
     let b = bundle_with file output (program_of context names steps) in
-    let size_of = code_length names 4 steps in
-    let go : (t : Bool) → test ≡ t → IfSome (if t then Some b else None) IsStraight = λ t. elim t as (λ t. test ≡ t → IfSome (if t then Some b else None) IsStraight) [
-      | true ↦ λ e. let few = both_left (nat_le (length names) 128) (list_all name_test names) e in record {
-        program = program_of context names steps;
-        alone = refl;
-        memory = refl;
-        output = refl;
-        file = size;
-        registers = grind (arith, nat_tests, few);
-        labels = refl;
-        lines = (omega (arith, size_of), omega (arith, size_of, sound.1));
-        steps = are_steps names 4 steps (steps_known steps []) sound.0;
-      }
+    let go : (t : Bool) → test ≡ t → IfSome (if t then Some b else None) P = λ t. elim t as (λ t. test ≡ t → IfSome (if t then Some b else None) P) [
+      | true ↦ λ e. let few = both_left (nat_le (length names) 128) (list_all name_test names) e in each file output context steps size sound (grind (arith, nat_tests, few))
       | false ↦ λ e. tt
     ]
     in go test refl
 
-steps_straight : (file : ℕ) (output context : List ℕ) (count : ℕ) (steps : Option (List Step)) → (1 ≤ file) × (file ≤ 128) → count ≤ 2048 → IfSome steps (Sound count) → IfSome (with_steps file output context steps) IsStraight
-steps_straight file output context count None size le sound = tt
-steps_straight file output context count (Some steps) size le sound = registers_straight file output context steps size (sound.0, omega (arith, sound.1, le))
+steps_as : (P : Bundle → Type 0) → OfEach P → (file : ℕ) (output context : List ℕ) (count : ℕ) (steps : Option (List Step)) → (1 ≤ file) × (file ≤ 128) → count ≤ 2048 → IfSome steps (Sound count) → IfSome (with_steps file output context steps) P
+steps_as P each file output context count None size le sound = tt
+steps_as P each file output context count (Some steps) size le sound = registers_as P each file output context steps size (sound.0, omega (arith, sound.1, le))
 
-header_straight : (file : Option ℕ) (output context : Option (List ℕ)) (code : List (List ℕ)) → IfSome file (λ n. (1 ≤ n) × (n ≤ 128)) → IfSome (with_header file output context code) IsStraight
-header_straight None output context code size = tt
-header_straight (Some file) None context code size = tt
-header_straight (Some file) (Some output) None code size = tt
-header_straight (Some file) (Some output) (Some context) code size =
+header_as : (P : Bundle → Type 0) → OfEach P → (file : Option ℕ) (output context : Option (List ℕ)) (code : List (List ℕ)) → IfSome file (λ n. (1 ≤ n) × (n ≤ 128)) → IfSome (with_header file output context code) P
+header_as P each None output context code size = tt
+header_as P each (Some file) None context code size = tt
+header_as P each (Some file) (Some output) None code size = tt
+header_as P each (Some file) (Some output) (Some context) code size =
     let read = with_steps file output context (steps_of output code) in
-    let go : (t : Bool) → nat_le (length code) 2048 ≡ t → IfSome (if t then read else None) IsStraight = λ t. elim t as (λ t. nat_le (length code) 2048 ≡ t → IfSome (if t then read else None) IsStraight) [
-      | true ↦ λ e. steps_straight file output context (length code) (steps_of output code) size (grind (arith, nat_tests)) (steps_sound output code)
+    let go : (t : Bool) → nat_le (length code) 2048 ≡ t → IfSome (if t then read else None) P = λ t. elim t as (λ t. nat_le (length code) 2048 ≡ t → IfSome (if t then read else None) P) [
+      | true ↦ λ e. steps_as P each file output context (length code) (steps_of output code) size (grind (arith, nat_tests)) (steps_sound output code)
       | false ↦ λ e. tt
     ]
     in go (nat_le (length code) 2048) refl
@@ -137,14 +130,34 @@ size_fits n =
     ]
     in go test refl
 
-lines_straight : (lines : List (List ℕ)) → IfSome (bundle_of lines) IsStraight
-lines_straight [] = tt
-lines_straight (a ∷ []) = tt
-lines_straight (a ∷ b ∷ []) = tt
-lines_straight (file ∷ output ∷ context ∷ code) =
-    header_straight (file_of file) (name_after (codes "output") output) (name_after (codes "context") context) code
+lines_as : (P : Bundle → Type 0) → OfEach P → (lines : List (List ℕ)) → IfSome (bundle_of lines) P
+lines_as P each [] = tt
+lines_as P each (a ∷ []) = tt
+lines_as P each (a ∷ b ∷ []) = tt
+lines_as P each (file ∷ output ∷ context ∷ code) =
+    header_as P each (file_of file) (name_after (codes "output") output) (name_after (codes "context") context) code
     (some_then (λ n. (1 ≤ n) × (n ≤ 128)) _ (option_and_then number_of (after_word (codes "file") file)) size_fits)
+
+-- a bundle that is read has each such fact
+pub read_as : (P : Bundle → Type 0) → OfEach P → (text : List ℕ) (b : Bundle) → straight_bundle text ≡ Some b → P b
+read_as P each text b e = subst (λ o. IfSome o P) e (lines_as P each (lines_of text))
+
+straight_each : OfEach IsStraight
+straight_each file output context steps size sound few =
+    let names = registers_from [] steps in
+    let size_of = code_length names 4 steps in
+    record {
+      program = program_of context names steps;
+      alone = refl;
+      memory = refl;
+      output = refl;
+      file = size;
+      registers = few;
+      labels = refl;
+      lines = (omega (arith, size_of), omega (arith, size_of, sound.1));
+      steps = are_steps names 4 steps (steps_known steps []) sound.0;
+    }
 
 -- a bundle that is read is straight code
 pub straight_of : (text : List ℕ) (b : Bundle) → straight_bundle text ≡ Some b → IsStraight b
-straight_of text b e = subst (λ o. IfSome o IsStraight) e (lines_straight (lines_of text))
+straight_of = read_as IsStraight straight_each

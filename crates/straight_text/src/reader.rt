@@ -1,4 +1,5 @@
 ghost use Rattle.std.specs.Prelude.{◌≡◌, ◌≤◌, IfOk, [], ◌∷◌, Some, None, length, option_map};
+ghost use Rattle.micro_isa.specs.Formed.{IsFormedBundle};
 ghost use Rattle.straight_text.specs.Reading.{after_word, bundle_with, name_after, file_of, with_registers, with_steps, with_header, bundle_of, straight_bundle};
 ghost use Rattle.straight_text.specs.Shape.{IsStraight};
 ghost use Rattle.straight_text.specs.Steps.{registers_from};
@@ -150,12 +151,13 @@ fn bundle_of(alloc: Global, lines: &[&[u8]]) -> Result<Option<Bundle>, NoMemory>
 }
 
 /// The bundle that a text of the smallest form spells. It is `Later` exactly where there is none.
-#[tactic(auto, using(crate::proofs::Straight::straight_of))]
+#[tactic(auto, using(crate::proofs::Straight::straight_of, crate::proofs::Forming::straight_formed))]
 pub fn read_straight(alloc: Global, text: &[u8]) -> Result<Bundle, StraightFault>
     requires { length text.now ≤ 2097152 }
     ensures ok { IfOk result (λ b. straight_bundle text.now ≡ Some b) }
     ensures later { result ≡ Err StraightFault.Later → straight_bundle text.now ≡ None }
     ensures straight { IfOk result IsStraight }
+    ensures formed { IfOk result (λ b. IsFormedBundle b) }
 {
     let Ok(lines) = lines_of(alloc, text) else {
         return Err(StraightFault::NoMemory);
