@@ -1,4 +1,5 @@
--- The steps that stand for moves at once: the first pair whose target is no source, while there is one; then what opens the first cycle.
+-- The steps that stand for moves at once: the first pair whose target is no source, while there is one; else what
+-- opens the cycle of the first pair.
 use Rattle.std.specs.List.{filter}
 use Rattle.std.specs.Prelude.{ℕ, zero, suc, List, [], ◌∷◌, ◌++◌, map, not, length, Bool, true, false, Option, Some, None, ◌==◌, if◌then◌else◌}
 use Rattle.micro_isa.specs.declared.image.PReg.{PReg}
@@ -28,7 +29,6 @@ first_free all (p ∷ ps) = if is_source all (p.1).0 then first_free all ps else
 abbrev pub without : ℕ → List Pair → List Pair
 without t = filter (λ p. not ((p.1).0 == t))
 
--- the same targets, with b for the source a
 -- the pair, with b in place of the source a
 abbrev pub from_there : ℕ → PReg → Pair → Pair
 from_there a b p = (if (p.0).0 == a then b else p.0, p.1)
@@ -52,7 +52,8 @@ pub record Turn : Type 0 where
   pub steps : List Step
   pub left : List Pair
 
--- what opens a cycle at the first pair: its target is saved in the free register, or exchanged with its source
+-- what opens a cycle at the first pair: the value of its target t is saved in the free register f, from which it then
+-- goes where t's value was to go; or the two registers are exchanged
 abbrev pub open_cycle : Option PReg → List Pair → Turn
 open_cycle free [] = record { steps = []; left = [] }
 open_cycle (Some f) (p ∷ ps) = record { steps = Mov f p.1 ∷ Mov p.1 p.0 ∷ []; left = renamed (p.1).0 f ps }
@@ -75,6 +76,6 @@ abbrev pub steps_from : Option PReg → ℕ → List Pair → List Step
 steps_from free zero left = []
 steps_from free (suc n) left = (turn free left).steps ++ steps_from free n (turn free left).left
 
--- the whole list: the pairs that move something, chains before each cycle is opened
+-- the whole list, for the pairs that move something
 abbrev pub move_steps : List Pair → Option PReg → List Step
 move_steps pairs free = steps_from free (length pairs) (moving pairs)

@@ -10,7 +10,8 @@ use micro_isa::PReg;
 /// Which registers are targets whose pair is done.
 type Done = [bool; 256];
 
-/// How many steps `sequence` gives for these pairs, with a free register or without.
+/// How many steps `sequence` gives for these pairs, with a free register or without: one a pair
+/// outside cycles, and for a cycle of n pairs n + 1 with a free register and 3 (n - 1) without.
 #[tactic(auto, using(crate::proofs::CostLaw::cost_is, crate::proofs::CostLaw::cost_law))]
 pub fn cost(pairs: &[(PReg, PReg)], has_free: bool) -> u32
     requires { AreDistinct pairs.now }

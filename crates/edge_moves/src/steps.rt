@@ -9,8 +9,9 @@ use micro_isa::{NoMemory, PReg};
 use smallvec::SmallVec;
 use std::alloc::Global;
 
-/// The steps that do these moves, each from a source to a target, as if at once. The only error is
-/// want of memory. The free register may change.
+/// The steps that do these moves, each from a source to a target, as if at once. The free register,
+/// where there is one, may change, and no other register but the targets. The only error is want of
+/// memory.
 #[tactic(auto, using(crate::proofs::Parallel::parallel_move, crate::proofs::Bounds::keeps_within))]
 pub fn sequence(
     alloc: Global,
@@ -26,6 +27,7 @@ pub fn sequence(
     steps_of(alloc, pairs, free)
 }
 
+/// Turn after turn, until no pair remains.
 fn steps_of(
     alloc: Global,
     pairs: &[(PReg, PReg)],
@@ -112,6 +114,7 @@ fn push(steps: &mut SmallVec<Step, 16, Global>, step: Step) -> Result<(), NoMemo
     Ok(())
 }
 
+/// Drops the pair with this target.
 fn remove_to(left: &mut Vec<(PReg, PReg)>, to: PReg)
     ensures { left.new.items ≡ without to.0 left.old.items }
 {
