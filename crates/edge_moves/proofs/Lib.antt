@@ -1,0 +1,9 @@
+pub mod Bounds
+pub mod CostLaw
+pub mod Cycles
+pub mod Lists
+pub mod Marks
+pub mod Openings
+pub mod Outside
+pub mod Parallel
+pub mod Rings
