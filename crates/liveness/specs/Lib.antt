@@ -1,0 +1,4 @@
+pub mod Liveness
+pub mod Sets
+pub mod Lives
+pub mod Sweeps

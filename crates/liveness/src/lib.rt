@@ -1,0 +1,7 @@
+//! Which registers are live before and after each instruction of a program.
+#![tactic(auto)]
+
+mod live;
+mod sweep;
+
+pub use live::Live;
