@@ -4,9 +4,9 @@ use Rattle.std.proofs.lemmas.Option.{slice_get_within, slice_get_cases}
 use Rattle.micro_isa.specs.declared.instr.Next.{Next}
 use Rattle.micro_isa.specs.declared.program.Line.{Line}
 use Rattle.micro_isa.specs.Columns.{next_of}
-use Rattle.flow_graph.specs.Paths.{GoesTo, Edge, Walk, IsClosedCode, AreSuccessors}
+use Rattle.flow_graph.specs.Paths.{GoesTo, Edge, Walk, IsClosedCode, AreSuccessors, Below, AreWithin}
 use Rattle.flow_graph.specs.Flows.{IsFlowOf}
-use Rattle.flow_graph.specs.Floods.{Below, AreWithin, Step, IsReached}
+use Rattle.flow_graph.specs.Floods.{Step, IsReached}
 
 mapped : (E F : ℕ → ℕ → Type 0) → ((i j : ℕ) → E i j → F i j) → (rest : List ℕ) (i j : ℕ) → Walk E i rest j → Walk F i rest j
 mapped E F each [] i j at = at
@@ -40,9 +40,10 @@ module _ (code : List Line) (successors : List Next) (are : AreSuccessors code s
             (λ j e. let less = closed.closed i j (edge_of_step i j (next, is, inr e)) in omega arith);
       }
 
-  pub flow_of : (marks : List Bool) → IsReached successors marks → IsFlowOf code (record { successors = successors; marks = marks })
-  flow_of marks reached = record {
+  pub flow_of : (marks : List Bool) → AreWithin successors → IsReached successors marks → IsFlowOf code (record { successors = successors; marks = marks })
+  flow_of marks all_within reached = record {
     successors = are;
+    within = all_within;
     one_each = reached.one_each ∙ are.one_each;
     reached = λ i inside.
         let both = reached.exact i (let one = are.one_each in omega arith) in (

@@ -6,8 +6,8 @@ use Rattle.std.proofs.lemmas.List.Sums.{sum_by-set}
 use Rattle.std.proofs.lemmas.List.Elements.{Contains-append_left, Contains-push, Contains-push_cases}
 use Rattle.std.proofs.lemmas.Option.{slice_get_within, slice_get-get_or}
 use Rattle.micro_isa.specs.declared.instr.Next.{Next}
-use Rattle.flow_graph.specs.Paths.{Walk}
-use Rattle.flow_graph.specs.Floods.{Below, AreWithin, Step, Arrives, IsReached, marked, stacked, IsOpen, weight}
+use Rattle.flow_graph.specs.Paths.{Below, AreWithin, Walk}
+use Rattle.flow_graph.specs.Floods.{Step, Arrives, IsReached, marked, stacked, IsOpen, weight}
 
 -- a path goes on by an edge
 onward : (successors : List Next) (rest : List ℕ) (i j k : ℕ) → Walk (Step successors) i rest j → Step successors j k → Arrives successors i k

@@ -1,18 +1,8 @@
 -- A flood with a stack, over the list of the instructions' successors.
-use Rattle.std.specs.Prelude.{ℕ, ◌≡◌, ◌+◌, ◌*◌, ◌<◌, ◌⊎◌, ◌↔◌, ⊤, Bool, true, false, cond, List, [], ◌∷◌, ◌++◌, Option, Some, None, length, slice_get, slice_index_or, slice_set}
+use Rattle.std.specs.Prelude.{ℕ, ◌≡◌, ◌+◌, ◌*◌, ◌<◌, ◌⊎◌, ◌↔◌, Bool, true, false, cond, List, [], ◌∷◌, ◌++◌, Option, Some, None, length, slice_get, slice_index_or, slice_set}
 use Rattle.std.specs.List.{Contains, sum_by}
 use Rattle.micro_isa.specs.declared.instr.Next.{Next}
 use Rattle.flow_graph.specs.Paths.{GoesTo, Walk}
-
--- the instruction, if there is one, is below n
-abbrev pub Below : Option ℕ → ℕ → Type 0
-Below None n = ⊤
-Below (Some k) n = k < n
-
--- each successor has successors of its own in the list
-pub record AreWithin (successors : List Next) : Type 0 where
-  pub fall : (i : ℕ) (next : Next) → slice_get successors i ≡ Some next → Below next.fall (length successors)
-  pub jump : (i : ℕ) (next : Next) → slice_get successors i ≡ Some next → Below next.jump (length successors)
 
 -- the list has j as a successor of i
 abbrev pub Step : List Next → ℕ → ℕ → Type 0

@@ -44,3 +44,13 @@ pub record IsClosedCode (code : List Line) : Type 0 where
 pub record AreSuccessors (code : List Line) (successors : List Next) : Type 0 where
   pub one_each : length successors ≡ length code
   pub each : (i : ℕ) (line : Line) → slice_get code i ≡ Some line → slice_get successors i ≡ Some (next_of line.instr i)
+
+-- the instruction, if there is one, is below n
+abbrev pub Below : Option ℕ → ℕ → Type 0
+Below None n = ⊤
+Below (Some k) n = k < n
+
+-- each successor is a place of the list
+pub record AreWithin (successors : List Next) : Type 0 where
+  pub fall : (i : ℕ) (next : Next) → slice_get successors i ≡ Some next → Below next.fall (length successors)
+  pub jump : (i : ℕ) (next : Next) → slice_get successors i ≡ Some next → Below next.jump (length successors)

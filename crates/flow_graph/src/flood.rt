@@ -1,5 +1,6 @@
 ghost use Rattle.std.specs.Prelude.{◌≡◌, ℕ, ◌<◌, ◌≤◌, length, slice_index_or, OnOk, IfOk, true, false};
-ghost use Rattle.flow_graph.specs.Floods.{AreWithin, IsReached, IsOpen, Below, marked, stacked};
+ghost use Rattle.flow_graph.specs.Floods.{IsReached, IsOpen, marked, stacked};
+ghost use Rattle.flow_graph.specs.Paths.{AreWithin, Below};
 
 use micro_isa::{List, Next, NoMemory};
 use std::alloc::Global;

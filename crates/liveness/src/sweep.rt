@@ -1,6 +1,5 @@
 ghost use Rattle.std.specs.Prelude.{◌≡◌, ℕ, ◌<◌, ◌≤◌, length, sum, slice_get, slice_index_or, true, false};
-ghost use Rattle.flow_graph.specs.Paths.{IsClosedCode, IsSmall, HasSmallRegisters};
-ghost use Rattle.flow_graph.specs.Floods.{Below};
+ghost use Rattle.flow_graph.specs.Paths.{Below, IsClosedCode, IsSmall, HasSmallRegisters};
 ghost use Rattle.flow_graph.specs.Flows.{IsFlowOf};
 ghost use Rattle.micro_isa.specs.Columns.{next_of};
 ghost use Rattle.liveness.specs.Sweeps.{mask as mask_of, at_next, out_of, in_of, IsClosedAt, IsClosed, IsSound, IsLive, IsOutSet};

@@ -1,8 +1,15 @@
-use Rattle.liveness.proofs.Successors.{fall_below, jump_below}
+use Rattle.std.proofs.Common.{◌∙◌, sym, subst}
+use Rattle.flow_graph.specs.Paths.{Below}
 use Rattle.liveness.proofs.sweep.live_after.Goals as goal
 
 pub set_at-requires : goal.set_at-requires
-set_at-requires c = fall_below _ _ _ _ c.requires.flow c.successors_of-next.ensures c.requires.closed c.requires.here _ c.requires.one_each
+set_at-requires c =
+    let flow = c.requires.flow in
+    let as_many = flow.successors.one_each ∙ sym c.requires.one_each in
+    subst (λ n. Below c.successors_of-next.result.fall n) as_many (flow.within.fall _ _ c.successors_of-next.ensures)
 
 pub set_at-requires-2 : goal.set_at-requires-2
-set_at-requires-2 c = jump_below _ _ _ _ c.requires.flow c.successors_of-next.ensures c.requires.closed c.requires.here _ c.requires.one_each
+set_at-requires-2 c =
+    let flow = c.requires.flow in
+    let as_many = flow.successors.one_each ∙ sym c.requires.one_each in
+    subst (λ n. Below c.successors_of-next.result.jump n) as_many (flow.within.jump _ _ c.successors_of-next.ensures)

@@ -12,4 +12,4 @@ reached-requires-clause-within c =
 pub returns : goal.returns
 returns c =
     let are = subst (λ code. AreSuccessors code c.in_ok-successors.successors) c.as_slice.ensures c.in_ok-successors.ensures in
-    flow_of _ _ are _ (subst (λ list. IsReached list c.in_ok-marks.marks) c.as_slice-2.ensures c.in_ok-marks.ensures)
+    flow_of _ _ are _ (within _ _ are c.requires) (subst (λ list. IsReached list c.in_ok-marks.marks) c.as_slice-2.ensures c.in_ok-marks.ensures)
