@@ -2,3 +2,4 @@ pub mod Liveness
 pub mod Sets
 pub mod Lives
 pub mod Sweeps
+pub mod Orders

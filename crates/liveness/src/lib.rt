@@ -2,6 +2,7 @@
 #![tactic(auto)]
 
 mod live;
+mod order;
 mod sweep;
 
 pub use live::Live;

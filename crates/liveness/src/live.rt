@@ -4,6 +4,7 @@ ghost use Rattle.flow_graph.specs.Flows.{IsFlowOf};
 ghost use Rattle.liveness.specs.Lives.{in_sets, out_sets, IsLiveOf};
 ghost use Rattle.liveness.specs.Sweeps.{IsLive, AreOutSets};
 
+use crate::order::visiting_order;
 use crate::sweep::{live_after, settle};
 use flow_graph::Flow;
 use micro_isa::{Line, List, NoMemory, Program};
@@ -55,7 +56,8 @@ fn live_sets(alloc: Global, code: &[Line], flow: &Flow) -> Result<List<u128>, No
     let Ok(mut sets) = Vec::from_elem(alloc, 0u128, code.len()) else {
         return Err(NoMemory);
     };
-    settle(code, flow, &mut sets);
+    let order = visiting_order(alloc, flow, code.len())?;
+    settle(code, flow, order.as_slice(), &mut sets);
     Ok(List::of(sets))
 }
 

@@ -7,15 +7,64 @@ ghost use Rattle.liveness.specs.Sweeps.{mask as mask_of, at_next, out_of, in_of,
 use flow_graph::Flow;
 use micro_isa::{Line, Next, VReg, reads_of, writes};
 
-/// Makes the sets grow until they are those of the registers that are live in.
-pub fn settle(code: &[Line], flow: &Flow, sets: &mut [u128])
+/// Makes the sets grow until they are those of the registers that are live in. Any order will do;
+/// one in which successors come first needs few rounds.
+pub fn settle(code: &[Line], flow: &Flow, order: &[u32], sets: &mut [u128])
     requires closed { IsClosedCode code.now }
     requires flow { IsFlowOf code.now flow.now }
     requires one_each { length sets.old ≡ length code.now }
     requires sound { IsSound code.now sets.old }
     ensures { IsLive code.now sets.new }
 {
-    'rounds: while sweep(code, flow, sets) {}
+    improve(code, flow, order, sets);
+    'rounds: while sweep(code, flow, sets) {
+        improve(code, flow, order, sets);
+    }
+}
+
+/// Visits in this order, again and again, until no set grows.
+fn improve(code: &[Line], flow: &Flow, order: &[u32], sets: &mut [u128])
+    requires closed { IsClosedCode code.now }
+    requires flow { IsFlowOf code.now flow.now }
+    requires one_each { length sets.old ≡ length code.now }
+    requires sound { IsSound code.now sets.old }
+    ensures one_each { length sets.new ≡ length code.now }
+    ensures sound { IsSound code.now sets.new }
+    ensures kept { sum sets.old ≤ sum sets.new }
+{
+    'passes: while pass(code, flow, order, sets) {}
+}
+
+/// Visits the instructions of the list. Whether a set grew.
+fn pass(code: &[Line], flow: &Flow, order: &[u32], sets: &mut [u128]) -> bool
+    requires closed { IsClosedCode code.now }
+    requires flow { IsFlowOf code.now flow.now }
+    requires one_each { length sets.old ≡ length code.now }
+    requires sound { IsSound code.now sets.old }
+    ensures one_each { length sets.new ≡ length code.now }
+    ensures sound { IsSound code.now sets.new }
+    ensures kept { sum sets.old ≤ sum sets.new }
+    ensures grown { result ≡ true → sum sets.old < sum sets.new }
+{
+    let mut grew = false;
+    'places: for k in 0..order.len() {
+        grew |= visit_if_there(code, flow, order[k] as usize, sets);
+    }
+    grew
+}
+
+/// Visits instruction `i`, if there is one. Whether its set grew.
+fn visit_if_there(code: &[Line], flow: &Flow, i: usize, sets: &mut [u128]) -> bool
+    requires closed { IsClosedCode code.now }
+    requires flow { IsFlowOf code.now flow.now }
+    requires one_each { length sets.old ≡ length code.now }
+    requires sound { IsSound code.now sets.old }
+    ensures one_each { length sets.new ≡ length code.now }
+    ensures sound { IsSound code.now sets.new }
+    ensures grown { result ≡ true → sum sets.old < sum sets.new }
+    ensures still { result ≡ false → sets.new ≡ sets.old }
+{
+    i < code.len() && visit(code, flow, i, sets)
 }
 
 /// Visits each instruction once, the last one first. Whether a set grew.
