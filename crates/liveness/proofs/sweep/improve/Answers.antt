@@ -1,0 +1,9 @@
+use Rattle.std.proofs.Common.{arith}
+use Rattle.liveness.proofs.Visits.{sum_bound}
+use Rattle.liveness.proofs.sweep.improve.Goals as goal
+
+pub passes-smaller : goal.passes-smaller
+passes-smaller c =
+    let bound = sum_bound c.pass.new.sets c.type_inv.sets in
+    let grown = c.pass.ensures.grown c.passes-test.true in
+    omega arith

@@ -1,0 +1,13 @@
+use Rattle.std.proofs.Common.{◌≡◌, ◌-◌, ◌*◌, ◌^◌, length, sum}
+use Rattle.liveness.specs.Sweeps.{IsSound}
+use Rattle.liveness.proofs.sweep.settle.Given as goal
+
+abbrev pub invariant-rounds : goal.invariant-rounds
+invariant-rounds l = record {
+  one_each : length l.sets ≡ length l.code;
+  sound : IsSound l.code l.sets;
+}
+
+-- sets only grow, so their sum does
+abbrev pub decreases-rounds : goal.decreases-rounds
+decreases-rounds l = length l.sets * 2 ^ 128 - sum l.sets

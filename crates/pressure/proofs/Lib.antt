@@ -1,0 +1,7 @@
+pub mod Sizes
+pub mod Greatest
+pub mod Spreading
+pub mod Numbering
+pub mod Parts
+pub mod Switching
+pub mod Closed

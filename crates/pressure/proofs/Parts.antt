@@ -1,0 +1,69 @@
+-- Survivors and results of an instruction as sets.
+use Rattle.std.proofs.Common.{◌≡◌, ℕ, ◌*◌, ◌%◌, ◌^◌, ◌<◌, List, Option, Some, length, get_or, slice_get, ap, sym, subst, ◌∙◌, inl, inr, arith}
+use Rattle.std.specs.Prelude.{count_ones, bit_and, bit_or}
+use Rattle.std.specs.Int.{bit_at, bit_not, w128}
+use Rattle.std.proofs.lemmas.Bool.{cases_eq}
+use Rattle.std.proofs.lemmas.Nat.{and_le_l, or_lt}
+use Rattle.std.proofs.lemmas.Nat.Bits.{bit_at-zero, bit_at_set_same, bit_at_set_other}
+use Rattle.std.proofs.lemmas.Option.{slice_get-get_or, get_or_from_slice_get}
+use Rattle.micro_isa.specs.declared.program.Line.{Line}
+use Rattle.micro_isa.specs.declared.program.VReg.{VReg}
+use Rattle.micro_isa.specs.Columns.{written_by}
+use Rattle.flow_graph.specs.Paths.{IsSmall, IsClosedCode}
+use Rattle.liveness.specs.Liveness.{LiveOut}
+use Rattle.liveness.specs.Sets.{IsSetOf, HasSize}
+use Rattle.pressure.specs.Pressures.{WritesAt, Stays, IsAfter}
+use Rattle.pressure.proofs.Sizes.{sized, union, difference}
+
+pub alone : (register : VReg) → register.0 < 128 → IsSetOf (λ k. Some register ≡ Some (record { 0 = k })) (1 * 2 ^ register.0 % 2 ^ 128)
+alone register small =
+    let named_so : ℕ → Option VReg = λ n. Some (record { 0 = n }) in record {
+      exact = λ k. (
+        λ one. elim (cases_eq k register.0) [
+          | inl same ↦ ap named_so (sym same)
+          | inr other ↦ absurd (omega (arith, bit_at_set_other w128 0 register.0 small k other, bit_at-zero k))
+        ],
+        λ is. let same : register.0 ≡ k = cc in subst (λ j. bit_at (1 * 2 ^ register.0 % 2 ^ 128) j ≡ 1) same (bit_at_set_same w128 0 register.0 small),
+      );
+    }
+
+module _ (code : List Line) (i : ℕ) (d : Line) (written : Option VReg) (is_written : written ≡ written_by (get_or code i d).instr)
+    (here : i < length code) where
+  is : slice_get code i ≡ Some (get_or code i d)
+  is = slice_get-get_or code i d here
+
+  pub written_small : IsClosedCode code → IsSmall written
+  written_small closed = rw is_written (closed.registers i _ is).written
+
+  written_at : (k : ℕ) → written ≡ Some (record { 0 = k }) → WritesAt code i k
+  written_at k e = (get_or code i d, is, sym is_written ∙ e)
+
+  at_written : (k : ℕ) → WritesAt code i k → written ≡ Some (record { 0 = k })
+  at_written k at =
+      let same = get_or_from_slice_get code i at.0 d at.1 in
+      is_written ∙ ap (λ (y : Line). written_by y.instr) same ∙ at.2
+
+  module _ (out one : ℕ) (out_small : out < 2 ^ 128) (one_small : one < 2 ^ 128) (is_out : IsSetOf (LiveOut code i) out)
+      (is_one : IsSetOf (λ k. written ≡ Some (record { 0 = k })) one) where
+    pub stay_sized : HasSize (Stays code i) (count_ones (bit_and out (bit_not w128 one)))
+    stay_sized =
+        let le = and_le_l out (bit_not w128 one) in
+        let all = difference (LiveOut code i) (λ k. written ≡ Some (record { 0 = k })) out one out_small one_small is_out is_one in
+        sized (Stays code i) (bit_and out (bit_not w128 one)) (omega arith) (record {
+          exact = λ k.
+              let both = all.exact k in (
+                λ bit. let p = both.0 bit in (p.0, λ at. p.1 (at_written k at)),
+                λ holds. both.1 (holds.0, λ e. holds.1 (written_at k e)),
+              );
+        })
+
+    pub after_sized : HasSize (IsAfter code i) (count_ones (bit_or out one))
+    after_sized =
+        let all = union (LiveOut code i) (λ k. written ≡ Some (record { 0 = k })) out one is_out is_one in
+        sized (IsAfter code i) (bit_or out one) (or_lt 128 out one out_small one_small) (record {
+          exact = λ k.
+              let both = all.exact k in (
+                λ bit. elim (both.0 bit) [ inl live ↦ inl live | inr e ↦ inr (written_at k e) ],
+                elim [ inl live ↦ both.1 (inl live) | inr at ↦ both.1 (inr (at_written k at)) ],
+              );
+        })

@@ -1,0 +1,12 @@
+use Rattle.std.proofs.Common.{◌≡◌, ◌+◌, ◌-◌, ◌*◌, ◌≤◌, max, map, drop}
+use Rattle.std.specs.List.{sum_by}
+use Rattle.pressure.specs.Pressures.{greatest}
+use Rattle.pressure.proofs.joint_need.need.Given as goal
+
+abbrev pub invariant-parts : goal.invariant-parts
+invariant-parts l = record {
+  summed : l.private + sum_by (λ part. part.private) (drop l.part-index l.parts) ≡ sum_by (λ part. part.private) l.parts;
+  small : l.private ≤ 512 * l.part-index;
+  most : max l.shared (greatest (map (λ part. part.all - part.private) (drop l.part-index l.parts))) ≡ greatest (map (λ part. part.all - part.private) l.parts);
+  low : l.shared ≤ 512;
+}

@@ -1,0 +1,4 @@
+pub mod Boundaries
+pub mod Regions
+pub mod Labels
+pub mod Pressures
