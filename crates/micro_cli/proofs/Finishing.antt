@@ -1,5 +1,5 @@
 -- From what was asked and what the sink took to what the call leaves; and when the whole report is written.
-use Rattle.std.proofs.Common.{◌≡◌, ℕ, ◌+◌, ◌<◌, ◌≤◌, List, [], ◌++◌, length, take, Bool, true, false, Option, Some, None, refl, sym, ap, ◌∙◌, subst, arith, append_nil, length-append}
+use Rattle.std.proofs.Common.{◌≡◌, ℕ, ◌+◌, ◌<◌, ◌≤◌, List, [], ◌++◌, length, take, Bool, true, false, Option, Some, None, refl, sym, ap, ◌∙◌, subst, arith, append-nil, length-append}
 use Rattle.std.specs.Prelude.{option_map}
 use Rattle.std.proofs.lemmas.Option.{same_Some}
 use Rattle.micro_kit.specs.Streams as stream
@@ -38,7 +38,7 @@ cut_short answer words o text taken asked rose part grew =
 whole_is : (input taken : List ℕ) (left' : Option (List ℕ)) → stream.Gives (Some input) taken left' → stream.IsSpent left' → taken ≡ input
 whole_is input taken None gives spent = absurd (cc)
 whole_is input taken (Some rest) gives spent =
-    sym (same_Some _ _ gives ∙ ap (λ r. taken ++ r) spent ∙ append_nil taken)
+    sym (same_Some _ _ gives ∙ ap (λ r. taken ++ r) spent ∙ append-nil taken)
 
 longer : (input taken : List ℕ) (left' : Option (List ℕ)) → stream.Gives (Some input) taken left' → length taken ≤ length input
 longer input taken None gives = absurd (cc)

@@ -110,11 +110,17 @@ fn status_of(end: End, phases: &[Phase]) -> Status
 fn finished_status(phases: &[Phase]) -> Status
     ensures { result ≡ (if list_any has_trapped phases.now then Status.Trapped else Status.Done) }
 {
-    if phases.iter().any(|phase| has_trapped(*phase)) {
+    if some_trapped(phases) {
         Status::Trapped
     } else {
         Status::Done
     }
+}
+
+fn some_trapped(phases: &[Phase]) -> bool
+    ensures { result ≡ list_any has_trapped phases.now }
+{
+    phases.iter().any(|phase| has_trapped(*phase))
 }
 
 fn has_trapped(phase: Phase) -> bool
