@@ -1,5 +1,5 @@
 -- The line of a journal's entry.
-use Rattle.std.specs.Prelude.{ℕ, List, ◌++◌, decimal, codes}
+use Rattle.std.specs.Prelude.{ℕ, ◌<◌, ◌^◌, List, ◌++◌, decimal, codes}
 use Rattle.world.specs.declared.event.Trap.{Trap}
 use Rattle.world.specs.declared.event.Trap.TheVariants.{Divide, Address}
 use Rattle.world.specs.declared.event.SegmentEnd.{SegmentEnd}
@@ -21,6 +21,12 @@ end_word end.Send = codes "send"
 end_word end.Halt = codes "halt"
 end_word (end.Trap trap) = trap_word trap
 end_word end.Bound = codes "bound"
+
+-- the numbers of an entry are those that its types hold
+abbrev pub IsFitting : Entry → Type 0
+IsFitting (Ran c n end) = (c < 2 ^ 32) × (n < 2 ^ 32)
+IsFitting (Fed k w) = (k < 2 ^ 8) × (w < 2 ^ 32)
+IsFitting (Unplugged k) = k < 2 ^ 8
 
 -- `run C N END`, `feed K W` or `unplug K`
 abbrev pub entry_line : Entry → List ℕ

@@ -110,7 +110,7 @@ view_lines channels v =
     output_lines channels v.outputs ++ queue_lines channels v ++ memory_lines v.memory ++ context_lines v.phases
 
 -- the whole report, of the need, the image, the channels, the journal, and how the run stands at its end
-abbrev pub report_text : Option ℕ → Option Image → List Channel → List Entry → Outcome → List ℕ
+unfoldable pub report_text : Option ℕ → Option Image → List Channel → List Entry → Outcome → List ℕ
 report_text need image channels entries last =
     need_line need
     ++ image_lines image

@@ -1,5 +1,6 @@
-ghost use Rattle.std.specs.Prelude.{◌≡◌, ◌++◌, OnOk};
-ghost use Rattle.run_report.specs.Entries.{trap_word, end_word, entry_line};
+ghost use Rattle.std.specs.Prelude.{◌≡◌, ◌++◌, List, OnOk};
+ghost use Rattle.std.specs.List.{flat_map, AllByRecursion};
+ghost use Rattle.run_report.specs.Entries.{trap_word, end_word, entry_line, IsFitting};
 ghost use Rattle.world.specs.declared.event.Entry.TheVariants.{Ran, Fed};
 
 use crate::text::{put_bytes, put_number_line};
@@ -32,8 +33,10 @@ fn end_word(end: SegmentEnd) -> &'static [u8]
 }
 
 /// Appends the line of an entry, its newline included. After a refusal a part of it may stand there.
+/// Lists of entries that have the same lines are the same.
 pub fn put_entry(text: &mut Vec<u8>, entry: &Entry) -> Result<(), NoMemory>
-    ensures { OnOk result (text.new.items ≡ text.old.items ++ entry_line entry.now) }
+    ensures line { OnOk result (text.new.items ≡ text.old.items ++ entry_line entry.now) }
+    ensures once { (es fs : List Entry) → AllByRecursion IsFitting es → AllByRecursion IsFitting fs → flat_map entry_line es ≡ flat_map entry_line fs → es ≡ fs }
 {
     match *entry {
         Entry::Ran {

@@ -22,6 +22,7 @@ pub struct Outcome {
 }
 
 /// The text of a report. The lines of `need` and of `image` are left out where there is none.
+#[tactic(auto, unfolding(crate::specs::Report::report_text))]
 pub fn print_report(
     alloc: Global,
     need: Option<u32>,
