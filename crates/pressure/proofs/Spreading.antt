@@ -14,7 +14,7 @@ use Rattle.pressure.specs.Regions.{Joined, Adjacent, Connected}
 use Rattle.pressure.specs.Labels.{IsLabelled, IsLabelling, Agrees, AllAgree, lowered, falls, visited, visit_falls}
 
 -- a label is written that is smaller, and connected
-set_label : (code : List Line) (labels : List ℕ) (i v : ℕ) → IsLabelling code labels → v < get_or labels i 0 → Connected code i v
+pub set_label : (code : List Line) (labels : List ℕ) (i v : ℕ) → IsLabelling code labels → v < get_or labels i 0 → Connected code i v
     → IsLabelling code (set labels i v)
 set_label code labels i v before less way = record {
   one_each = length-set labels i v ∙ before.one_each;

@@ -3,6 +3,7 @@ ghost use Rattle.flow_graph.specs.Paths.{Below, IsClosedCode};
 ghost use Rattle.flow_graph.specs.Flows.{IsFlowOf};
 ghost use Rattle.pressure.specs.Labels.{IsLabelled, IsLabelling, AllAgree, lowered, falls, visited, visit_falls};
 
+use crate::merge::hasten;
 use flow_graph::Flow;
 use micro_isa::{Line, List, Next, NoMemory, switches};
 use std::alloc::Global;
@@ -31,7 +32,10 @@ fn settle(code: &[Line], flow: &Flow, labels: &mut [u32])
     requires labelling { IsLabelling code.now labels.old }
     ensures { IsLabelled code.now labels.new }
 {
-    'rounds: while spread(code, flow, labels) {}
+    hasten(code, flow, labels);
+    'rounds: while spread(code, flow, labels) {
+        hasten(code, flow, labels);
+    }
 }
 
 /// Joins each instruction with its successors once. Whether a label fell.

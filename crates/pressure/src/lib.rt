@@ -5,6 +5,7 @@
 mod boundary;
 mod joint_need;
 mod label;
+mod merge;
 mod pressure_of;
 mod region;
 mod size;
