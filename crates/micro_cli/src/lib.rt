@@ -7,6 +7,8 @@ mod lines;
 mod rounds;
 mod runs;
 mod status;
+#[cfg(test)]
+mod tests;
 
 pub use call::plain_call;
 pub use status::Status;
