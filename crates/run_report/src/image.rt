@@ -1,7 +1,6 @@
 //! What a report tells of an image.
 
-ghost use Rattle.std.specs.Prelude.{◌≡◌, ◌++◌, map, not, count_by, OnOk, IfOk};
-ghost use Rattle.run_report.specs.Text.{numbers};
+ghost use Rattle.std.specs.Prelude.{◌≡◌, ◌++◌, not, count_by, OnOk, IfOk};
 ghost use Rattle.run_report.specs.Report.{private_sizes, private_part, budget_line, glue_words, image_lines};
 
 use crate::text::{put_bytes, put_count, put_number_line};

@@ -1,10 +1,10 @@
 //! The lines of what a run shows, each kind by one function.
 
-ghost use Rattle.std.specs.Prelude.{◌≡◌, ◌++◌, length, slice_get, slice_index, decimal, OnOk};
+ghost use Rattle.std.specs.Prelude.{◌≡◌, ◌++◌, decimal, OnOk};
 ghost use Rattle.std.specs.Option.{option_copied};
 ghost use Rattle.world.specs.declared.event.Phase.TheVariants.{Sending, Trapped};
-ghost use Rattle.run_report.specs.Text.{numbers, in_order};
-ghost use Rattle.run_report.specs.Report.{put_on, output_words, output_line, held_line, queue_line, memory_line, memory_lines, phase_words, context_line, context_lines, file_line, ending_word, end_line};
+ghost use Rattle.run_report.specs.Text.{numbers};
+ghost use Rattle.run_report.specs.Report.{put_on, output_words, output_line, held_line, queue_line, memory_line, memory_lines, phase_words, context_line, file_line, ending_word, end_line};
 
 use crate::entry::trap_word;
 use crate::text::{put_bytes, put_count, put_numbers};

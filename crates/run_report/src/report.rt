@@ -2,7 +2,7 @@ ghost use Rattle.std.specs.Prelude.{◌≡◌, ◌++◌, OnOk, IfOk};
 ghost use Rattle.std.specs.Option.{option_copied};
 ghost use Rattle.std.specs.List.{flat_map};
 ghost use Rattle.run_report.specs.Entries.{entry_line};
-ghost use Rattle.run_report.specs.Report.{report_text, need_line, image_lines, output_lines, queue_lines, memory_lines, context_lines, view_lines};
+ghost use Rattle.run_report.specs.Report.{report_text, need_line, image_lines, output_lines, queue_lines, context_lines, view_lines};
 
 use crate::entry::put_entry;
 use crate::image::put_image;
