@@ -9,8 +9,8 @@ use std::{env, io};
 fn main(rt: HostRuntime) -> ExitCode {
     let status = match program_words(&rt) {
         Ok(words) => {
-            let mut input = StdSource::of(rt.reader());
-            let mut output = StdSink::of(io::writer(&rt));
+            let mut input = StdSource::of(rt.stdin());
+            let mut output = StdSink::of(rt.stdout());
             plain_call(rt.alloc(), &words, &mut input, &mut output)
         }
         Err(status) => status,
