@@ -1,4 +1,3 @@
 pub mod Finishing
 pub mod Replies
 pub mod Reports
-pub mod Turns

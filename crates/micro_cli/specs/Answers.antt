@@ -9,14 +9,13 @@ use Rattle.world.specs.declared.event.Entry.{Entry}
 use Rattle.world.specs.declared.event.End.{End}
 use Rattle.world.specs.declared.event.End.TheVariants as ending
 use Rattle.micro_kit.specs.Streams.{Rose, Gives, Grew, IsWhole}
-use Rattle.meanings.specs.Core.{ending_of, shown_core}
+use Rattle.meanings.specs.Core.{shown_core}
 use Rattle.meanings.specs.Events.{Moment}
-use Rattle.meanings.specs.Entries.{LeadsTo}
-use Rattle.meanings.specs.Rounds.{InRoundOrder}
 use Rattle.meanings.specs.Machine.{Machine, machine_side, machine_open}
 use Rattle.meanings.specs.Agreement.{Implements}
 use Rattle.sliced_image.specs.Sliced.{sliced_need, sliced_image}
 use Rattle.straight_text.specs.Reading.{straight_bundle}
+use Rattle.round_order.specs.RoundRuns.{IsRoundRun}
 use Rattle.run_report.specs.Report.{report_text}
 use Rattle.micro_cli.specs.declared.status.Status.{Status}
 use Rattle.micro_cli.specs.declared.status.Status.TheVariants as status
@@ -37,14 +36,12 @@ status_of ending.Idle phases = status.Idle
 abbrev pub default_bound : ℕ
 default_bound = 100000
 
--- the text is the report of a run of this image: its journal is legal and in round order, and it has an ending
+-- the text is the report of a run of this image in round order, with no port at hand
 pub record IsReport (m : Image) (need : ℕ) (answer : Status) (text : List ℕ) : Type 0 where
   pub entries : List Entry
   pub last : Moment Machine
   pub end : End
-  pub legal : LeadsTo (machine_side m) (machine_open m default_bound) entries last
-  pub order : InRoundOrder (machine_side m) (machine_open m default_bound) None entries
-  pub ended : ending_of last.core ≡ Some end
+  pub run : IsRoundRun (machine_side m) (machine_open m default_bound) last entries end
   pub answered : answer ≡ status_of end last.core.phases
   pub reported : text ≡ report_text (Some need) (Some m) m.setting.channels entries (record { view = shown_core last.core; file = Some last.state.file; ending = Some end })
 

@@ -1,4 +1,3 @@
-pub mod RoundRuns
 pub mod StatusCodes
 pub mod Lines
 pub mod Answers

@@ -3,7 +3,6 @@
 ghost use Rattle.std.specs.Prelude.{◌≡◌, ◌≤◌, Some, IfOk, IfErr, length, map, string_bytes};
 ghost use Rattle.micro_isa.specs.Formed.{IsFormedBundle};
 ghost use Rattle.straight_text.specs.Reading.{straight_bundle};
-ghost use Rattle.straight_text.specs.Shape.{IsStraight};
 ghost use Rattle.micro_cli.specs.Answers.{Asks, AsksOfInput, Says};
 ghost use Rattle.micro_cli.specs.Calls.{FailsToRead, IsSilent};
 ghost use Rattle.micro_cli.specs.Lines.{asks_run, usage_line, too_long_line, bad_bundle_line, no_fit_line};
@@ -130,7 +129,6 @@ fn bad_bundle(alloc: Global) -> Result<Reply, Silence>
 fn reply_to_bundle(alloc: Global, text: &[u8], bundle: &Bundle) -> Result<Reply, Silence>
     requires spelt { straight_bundle text.now ≡ Some bundle.now }
     requires formed { IsFormedBundle bundle.now }
-    requires straight { IsStraight bundle.now }
     ensures says { IfOk result (λ r. Says r.status text.now r.text.items) }
     ensures silent { IfErr result (λ why. why ≡ Silence.NoMemory) }
 {

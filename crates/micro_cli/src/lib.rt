@@ -4,7 +4,6 @@
 mod call;
 mod command;
 mod lines;
-mod rounds;
 mod runs;
 mod status;
 #[cfg(test)]

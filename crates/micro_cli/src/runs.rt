@@ -1,22 +1,19 @@
 //! A bundle's run: its image, its rounds and its report.
 
-ghost use Rattle.std.specs.Prelude.{◌≡◌, ◌≤◌, IfOk, Some, false, if◌then◌else◌};
+ghost use Rattle.std.specs.Prelude.{◌≡◌, ◌≤◌, IfOk, Some, if◌then◌else◌};
 ghost use Rattle.micro_isa.specs.Formed.{IsFormedBundle, IsFormedImage};
-ghost use Rattle.world.specs.WorldState.{has_open_input};
-ghost use Rattle.world.specs.Opening.{opening_world};
 ghost use Rattle.meanings.specs.Agreement.{Implements};
 ghost use Rattle.meanings.specs.Core.{shown_core};
 ghost use Rattle.sliced_image.specs.Sliced.{sliced_need, sliced_image};
-ghost use Rattle.straight_text.specs.Shape.{IsStraight};
 ghost use Rattle.run_report.specs.Report.{report_text};
 ghost use Rattle.micro_cli.specs.Answers.{IsReport, has_trapped, status_of};
 ghost use Rattle.std.specs.List.{list_any};
 
 use crate::command::Reply;
-use crate::rounds::{RoundRun, run_rounds};
 use crate::status::Status;
 use engine_core::Engine;
 use micro_isa::{Bundle, Image, List, NoMemory};
+use round_order::{EngineRun, run_engine};
 use run_report::{Outcome, print_report};
 use sliced_image::slice_image;
 use std::alloc::Global;
@@ -26,10 +23,8 @@ use world::{End, Phase};
 const DEFAULT_BOUND: u32 = 100_000;
 
 /// The report of the run of a bundle's sliced image.
-#[tactic(auto, using(crate::proofs::Reports::closed_opening))]
 pub(crate) fn run_bundle(alloc: Global, bundle: &Bundle, need: u32) -> Result<Reply, NoMemory>
     requires formed { IsFormedBundle bundle.now }
-    requires straight { IsStraight bundle.now }
     requires need { need ≡ sliced_need bundle.now }
     requires fits { need ≤ bundle.now.file }
     ensures same { IfOk result (λ r. Implements (sliced_image bundle.now) bundle.now) }
@@ -39,28 +34,29 @@ pub(crate) fn run_bundle(alloc: Global, bundle: &Bundle, need: u32) -> Result<Re
     run_image(alloc, &image, need)
 }
 
-/// The report of the run of an image that has no port.
+/// The report of the run of an image, with no port at hand.
+#[tactic(auto, using(crate::proofs::Reports::report_is))]
 fn run_image(alloc: Global, image: &Image, need: u32) -> Result<Reply, NoMemory>
     requires formed { IsFormedImage image.now }
-    requires closed { has_open_input (opening_world image.now.setting 100000) ≡ false }
     ensures { IfOk result (λ r. IsReport image.now need r.status r.text.items) }
 {
-    let mut engine = Engine::open(alloc, image, DEFAULT_BOUND)?;
-    let run = run_rounds(alloc, &mut engine)?;
-    report_of(alloc, image, need, &engine, &run)
+    let run = run_engine(alloc, image, DEFAULT_BOUND)?;
+    match report_of(alloc, image, need, &run) {
+        Ok(reply) => Ok(reply),
+        Err(NoMemory) => Err(NoMemory),
+    }
 }
 
 fn report_of(
     alloc: Global,
     image: &Image,
     need: u32,
-    engine: &Engine,
-    run: &RoundRun,
+    run: &EngineRun,
 ) -> Result<Reply, NoMemory>
-    ensures status { IfOk result (λ r. r.status ≡ status_of run.now.end engine.now.core.phases) }
-    ensures text { IfOk result (λ r. r.text.items ≡ report_text (Some need) (Some image.now) image.now.setting.channels run.now.entries.items (record { view = shown_core engine.now.core; file = Some engine.now.file; ending = Some run.now.end })) }
+    ensures status { IfOk result (λ r. r.status ≡ status_of run.now.end run.now.engine.core.phases) }
+    ensures text { IfOk result (λ r. r.text.items ≡ report_text (Some need) (Some image.now) image.now.setting.channels run.now.entries.items (record { view = shown_core run.now.engine.core; file = Some run.now.engine.file; ending = Some run.now.end })) }
 {
-    let last = outcome(alloc, engine, run.end)?;
+    let last = outcome(alloc, &run.engine, run.end)?;
     let text = print_report(
         alloc,
         Some(need),

@@ -4,10 +4,13 @@ use Rattle.std.specs.Prelude.{slice_get, nat_lt, find, ◌||◌, ◌⊎◌, if�
 use Rattle.std.specs.List.{list_any, list_all, range_with_len}
 use Rattle.std.proofs.lemmas.Bool.{ltb-true, ltb-false, cases_eq}
 use Rattle.std.proofs.lemmas.Option.{same_Some}
+use Rattle.std.proofs.lemmas.List.{append-nil, append_assoc}
 use Rattle.std.proofs.lemmas.List.Folds.{find-append}
 use Rattle.std.specs.Option.{option_or}
 use Rattle.world.specs.declared.event.Phase.{Phase}
+use Rattle.world.specs.declared.event.Event.{Event}
 use Rattle.world.specs.declared.event.Event.TheVariants.{Run}
+use Rattle.world.specs.declared.event.Seen.{Seen}
 use Rattle.world.specs.declared.event.Seen.TheVariants as seen
 use Rattle.world.specs.declared.event.Segment.{Segment}
 use Rattle.world.specs.declared.event.Entry.{Entry}
@@ -16,25 +19,16 @@ use Rattle.world.specs.declared.event.Illegal.TheVariants as illegal
 use Rattle.world.specs.declared.event.End.TheVariants as ending
 use Rattle.world.specs.WorldState.{WorldState, has_open_input}
 use Rattle.meanings.specs.Core.{Core, can_go_on, is_runnable, illegal_of, has_ended, some_runnable, ending_of}
-use Rattle.meanings.specs.Events.{Side, happens, unless_illegal, step}
-use Rattle.meanings.specs.Entries.{event_of, LeadsTo}
-use Rattle.meanings.specs.Rounds.{behind, next_in_round, last_after, last_of, KeepsOrder, InRoundOrder}
-use Rattle.meanings.specs.Machine.{Machine, machine_side}
-use Rattle.meanings.proofs.Histories.{leads_more, order_more, last_of-append}
-use Rattle.engine_core.specs.EngineState.{EngineState, moment_of}
+use Rattle.meanings.specs.Entries.{event_of}
+use Rattle.meanings.specs.Rounds.{behind, next_in_round, last_after, last_of, KeepsOrder}
+use Rattle.meanings.proofs.Histories.{last_of-append}
 use Rattle.engine_core.specs.Segments.{GoesOn}
-use Rattle.micro_cli.specs.RoundRuns.{IsTurn, IsRoundRun, RunSoFar}
+use Rattle.round_order.specs.Journals.{IsTurn, IsRunSoFar, RanAs}
+use Rattle.round_order.proofs.Histories.{leads_one_more}
 
 -- a segment that may happen, and its entry
-pub turn_is : (before after : EngineState) (c : ℕ) (s : Segment) → illegal_of before.core (Run c) ≡ None → happens (machine_side before.image) (moment_of before) (Run c) ≡ (moment_of after, seen.Ran s) → IsTurn before after c (Ran c s.steps s.end)
-turn_is before after c s legal happened = record {
-  seen = seen.Ran s;
-  happened = ap (λ o. unless_illegal o (happens (machine_side before.image) (moment_of before) (Run c))) legal ∙ ap Some happened;
-  told = refl;
-  steps = s.steps;
-  end = s.end;
-  ran = refl;
-}
+pub turn_is : {S : Type 0} (core : S → Core) (happened : S → Event → S → Seen → Type 0) (before after : S) (c : ℕ) (s : Segment) → illegal_of (core before) (Run c) ≡ None → happened before (Run c) after (seen.Ran s) → IsTurn core happened before after (Ran c s.steps s.end)
+turn_is core happened before after c s legal happens = record { legal = legal; seen = seen.Ran s; happens = happens; told = refl }
 
 -- a run that has no ending goes on
 pub record GoesOnStill (core : Core) : Type 0 where
@@ -160,25 +154,30 @@ next_is_legal core last c goes h =
     let can = found (is_runnable core) (behind (length core.phases) last) c h in
     legal_by core c (nat_lt c (length core.phases)) refl (there_where core.world core.phases c can) (still core goes).open_still can
 
+-- the turns begin behind the entries of the opening
+pub no_turn_yet : {S : Type 0} (core : S → Core) (happened : S → Event → S → Seen → Type 0) (before : S) (opening : List Entry) → has_open_input (core before).world ≡ false → IsRunSoFar core happened before before opening opening None
+no_turn_yet core happened before opening closed = record {
+  closed = closed;
+  on = λ first leads none. leads;
+  latest = λ none. none;
+  small = λ x is. absurd (cc);
+  rest = [];
+  begins = sym (append-nil opening);
+}
+
 -- a turn adds its entry to the journal
-pub turn_more : (before now after : EngineState) (entries : List Entry) (last : Option ℕ) (c : ℕ) (e : Entry) → RunSoFar before now entries last → next_in_round now.core last ≡ Some c → after.image ≡ now.image → GoesOn now.core after.core → IsTurn now after c e → c < 8 → RunSoFar before after (entries ++ e ∷ []) (Some c)
-turn_more before now after entries last c e so next image goes turn low = record {
-  image = image ∙ so.image;
+pub turn_more : {S : Type 0} (core : S → Core) (happened : S → Event → S → Seen → Type 0) (before now after : S) (opening entries : List Entry) (last : Option ℕ) (c : ℕ) (e : Entry) → IsRunSoFar core happened before now opening entries last → next_in_round (core now) last ≡ Some c → GoesOn (core now) (core after) → IsTurn core happened now after e → RanAs c e → c < 8 → IsRunSoFar core happened before after opening (entries ++ e ∷ []) (Some c)
+turn_more core happened before now after opening entries last c e so next goes turn ran low = record {
   closed = goes.inputs ∙ so.closed;
-  legal = leads_more side (moment_of before) (moment_of now) (moment_of after) entries e turn.seen so.legal happened turn.told;
-  order = order_more side (moment_of before) (moment_of now) None entries e so.legal so.order keeps;
+  on = λ first leads none. leads_one_more core happened first now after None entries e (so.on first leads none) turn (keeps none);
+  latest = λ none. last_of-append None entries e ∙ ap (last_after (last_of None entries)) ran.2;
   small = λ x is. subst (λ y. y < 8) (same_Some c x is) low;
-  latest = last_of-append None entries e ∙ ap (last_after (last_of None entries)) turn.ran;
+  rest = so.rest ++ e ∷ [];
+  begins = ap (λ l. l ++ e ∷ []) so.begins ∙ append_assoc opening so.rest (e ∷ []);
 }
   where
-    side : Side Machine
-    side = machine_side before.image
-
-    happened : step (machine_side before.image) (moment_of now) (event_of e) ≡ Some (moment_of after, turn.seen)
-    happened = (λ i. step (machine_side (sym so.image i)) (moment_of now) (event_of e)) ∙ turn.happened
-
-    keeps : KeepsOrder now.core (last_of None entries) e
-    keeps = subst (λ x. KeepsOrder now.core (last_of None entries) x) (sym turn.ran) (ap (next_in_round now.core) so.latest ∙ next)
+    keeps : last_of None opening ≡ None → KeepsOrder (core now) (last_of None entries) e
+    keeps none = subst (λ x. KeepsOrder (core now) (last_of None entries) x) (sym ran.2) (ap (next_in_round (core now)) (so.latest none) ∙ next)
 
 -- the search behind a context, in two parts
 pub next_found : (p : ℕ → Bool) (n l c : ℕ) → Some c ≡ find p (range_with_len (l + 1) (n - (l + 1))) → Some c ≡ find p (behind n (Some l))

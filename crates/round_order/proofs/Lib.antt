@@ -1,0 +1,4 @@
+pub mod Unplugging
+pub mod Rounds
+pub mod Histories
+pub mod Engines
