@@ -1,0 +1,10 @@
+pub mod Rows
+pub mod Spelling
+pub mod Slots
+pub mod Commands
+pub mod WordSteps
+pub mod Held
+pub mod States
+pub mod Walks
+pub mod Strays
+pub mod Splits
