@@ -1,10 +1,10 @@
 -- What the walk holds stands for the parts that were given.
-use Rattle.std.proofs.Common.{◌≡◌, ◌++◌, Bool, true, false, List, [], ◌∷◌, Option, Some, None, is_some, refl, sym, ap, ◌∙◌}
+use Rattle.std.proofs.Common.{◌≡◌, Bool, true, false, List, [], ◌∷◌, Option, Some, None, is_some, refl, sym, ap, ◌∙◌}
 use Rattle.clap.specs.Walk.{Row, Held, nothing_held, used, has_row, first_of}
 use Rattle.clap.specs.Takes.{settle_passes, use_passes}
 use Rattle.clap.specs.Faults.{settle_fault}
 use Rattle.command_words.specs.Texts.{Text, OptionName, steps, order, Parts}
-use Rattle.command_words.proofs.Slots.{rules, Slot, first, second, valued, id_of, option_built, rule_at, part, put, rows_of, with_pending, with_used, row_for, used_once, pending_rows, pending_passes, pending_faults, is_same, either, put_part, first_with, has_with}
+use Rattle.command_words.proofs.Slots.{rules, Slot, first, second, valued, id_of, option_built, rule_at, part, put, rows_of, with_pending, with_used, used_once, pending_rows, pending_passes, pending_faults, is_same, either, put_part, first_with, has_with}
 
 pub record Stands (h : Held) (p : Parts) : Type 0 where
   pub passes : settle_passes rules false h ≡ true

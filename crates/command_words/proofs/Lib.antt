@@ -8,3 +8,4 @@ pub mod States
 pub mod Walks
 pub mod Strays
 pub mod Splits
+pub mod Laws

@@ -1,11 +1,11 @@
 -- The places for texts on the command line, and what the command's walk makes of a text for each.
-use Rattle.std.proofs.Common.{◌≡◌, ℕ, ◌++◌, ◌||◌, ◌==◌, Bool, true, false, List, [], ◌∷◌, Option, Some, None, is_some, refl, sym, ap, ◌∙◌, codes, unwrap_or, append-nil}
+use Rattle.std.proofs.Common.{◌≡◌, ◌++◌, Bool, true, false, List, [], ◌∷◌, Option, Some, None, refl, sym, ◌∙◌, codes, unwrap_or, append-nil}
 use Rattle.std.proofs.lemmas.Bool.{true≢false}
 use Rattle.std.specs.Str.{bytes_eq}
-use Rattle.clap.specs.Walk.{Row, Rule, Held, Walk, idle, option, arg_by_id, arg_by_index, arg_by_long, settled, settled_rows, used, used_by_id, has_row, first_of, without, more_values, action_of, reading_by, with_default}
+use Rattle.clap.specs.Walk.{Row, Rule, Held, arg_by_index, arg_by_long, settled, used, has_row, first_of, without, more_values, action_of, reading_by, with_default}
 use Rattle.clap.specs.Simple.{Shape, built, new_rule}
-use Rattle.clap.specs.Takes.{settle_passes, use_passes}
-use Rattle.clap.specs.Faults.{settle_fault, use_fault}
+use Rattle.clap.specs.Takes.{settle_passes}
+use Rattle.clap.specs.Faults.{settle_fault}
 use Rattle.clap.specs.declared.builder.action.ArgAction.TheVariants.{Set}
 use Rattle.clap.specs.declared.parser.matches.ValueSource.TheVariants.{CommandLine}
 use Rattle.command_words.specs.Command.{command_app}

@@ -1,5 +1,5 @@
 -- Words as texts: where the first `=` cuts them, and how an option is spelt.
-use Rattle.std.proofs.Common.{◌≡◌, ℕ, suc, ◌+◌, ◌++◌, ◌||◌, ◌&&◌, ◌==◌, ◌⊎◌, inl, inr, Bool, true, false, List, [], ◌∷◌, take, Option, Some, None, is_some, if◌then◌else◌, refl, sym, ap, ◌∙◌, unwrap_or, one-add, arith}
+use Rattle.std.proofs.Common.{◌≡◌, ℕ, suc, ◌+◌, ◌++◌, ◌||◌, ◌&&◌, ◌==◌, ◌⊎◌, inl, inr, Bool, true, false, [], ◌∷◌, take, Some, None, is_some, if◌then◌else◌, refl, sym, ap, ◌∙◌, unwrap_or, one-add, arith}
 use Rattle.std.proofs.lemmas.Bool.{true≢false}
 use Rattle.std.proofs.lemmas.Bool.Decides.{Decides-eqb}
 use Rattle.std.proofs.lemmas.Slice.Eq.{bytes_eq-Decides}
@@ -18,7 +18,7 @@ shift k = omega arith
 pub none_some : {X : Type 0} (v : X) → None ≡ Some v → ⊥
 none_some v e = true≢false (sym (ap is_some e))
 
-some_same : {X : Type 0} (t v : X) → Some t ≡ Some v → t ≡ v
+pub some_same : {X : Type 0} (t v : X) → Some t ≡ Some v → t ≡ v
 some_same t v e = ap (λ o. unwrap_or o t) e
 
 cut_none : (t : Text) → has_byte 61 t ≡ false → before_first (λ x. x == 61) t ≡ t

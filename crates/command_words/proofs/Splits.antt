@@ -9,7 +9,7 @@ use Rattle.clap.specs.Faults.{fault_of, entered_fault, defaults_fault, check_fau
 use Rattle.clap.specs.Kinds.{or_else, Kinds}
 use Rattle.clap.proofs.TakesLemmas.{leaf_takes}
 use Rattle.command_words.specs.Command.{command_app}
-use Rattle.command_words.specs.Texts.{Text, Parts, parts_of, word_of}
+use Rattle.command_words.specs.Texts.{Text, Parts}
 use Rattle.command_words.specs.Hyphens.{is_fit}
 use Rattle.command_words.specs.Meaning.{words_parts}
 use Rattle.command_words.proofs.Slots.{shape, rules, Slot, first, second, valued, id_of, rule_at, part, rows_of, no_default}

@@ -1,7 +1,6 @@
 -- The texts that were met so far, and the parts that they give together with those that follow.
-use Rattle.std.proofs.Common.{◌≡◌, ℕ, ◌++◌, ◌&&◌, Bool, true, false, List, [], ◌∷◌, map, Option, Some, None, if◌then◌else◌, refl, sym, ap, ◌∙◌, option_map, option_and_then, slice_get}
+use Rattle.std.proofs.Common.{◌≡◌, ℕ, ◌++◌, ◌&&◌, Bool, true, false, List, [], ◌∷◌, map, Option, Some, None, if◌then◌else◌, refl, ◌∙◌, option_map, option_and_then}
 use Rattle.command_words.specs.Texts.{Text, OptionName, steps, order, Texts, Parts, with_plain, with_value, texts_of, parts_of, is_at_most_one, is_at_most_two, word_of}
-use Rattle.command_words.proofs.Slots.{valued, first, second, part, put}
 
 pub data Plains : Type 0 where
   nothing : Plains

@@ -1,10 +1,10 @@
 -- Words that have no meaning wherever they stand.
-use Rattle.std.proofs.Common.{◌≡◌, ℕ, ◌||◌, ◌&&◌, ◌==◌, Bool, true, false, List, [], ◌∷◌, map, Option, Some, None, if◌then◌else◌, refl, sym, ap, ◌∙◌, codes, option_map, option_and_then, arith}
+use Rattle.std.proofs.Common.{◌≡◌, ℕ, ◌||◌, ◌&&◌, ◌==◌, Bool, true, false, List, [], ◌∷◌, map, None, if◌then◌else◌, refl, sym, codes, arith}
 use Rattle.std.proofs.lemmas.Bool.{true≢false}
 use Rattle.std.proofs.lemmas.Bool.Decides.{Decides-eqb, nat_tests}
 use Rattle.std.specs.Str.{bytes_eq}
 use Rattle.std.specs.List.{list_all, list_any}
-use Rattle.command_words.specs.Texts.{Text, Word, plain, names, sets, stray, Texts, after, word_of, hyphened, texts_of}
+use Rattle.command_words.specs.Texts.{Text, Word, plain, names, sets, stray, after, word_of, hyphened, texts_of}
 use Rattle.command_words.specs.Hyphens.{is_double, is_fit}
 use Rattle.command_words.proofs.Spelling.{and_false, same_if}
 

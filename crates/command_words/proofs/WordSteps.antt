@@ -1,5 +1,5 @@
 -- The walk of the command over one word.
-use Rattle.std.proofs.Common.{◌≡◌, ℕ, ◌+◌, ◌++◌, ◌||◌, ◌&&◌, ◌==◌, ◌⊎◌, inl, inr, Bool, true, false, not, List, [], ◌∷◌, Option, Some, None, if◌then◌else◌, refl, sym, ap, ◌∙◌, subst, codes, ⊎_elim}
+use Rattle.std.proofs.Common.{◌≡◌, ℕ, ◌++◌, ◌&&◌, ◌==◌, ◌⊎◌, Bool, true, false, List, [], ◌∷◌, Option, Some, None, if◌then◌else◌, refl, sym, ap, ◌∙◌, subst, codes, ⊎_elim}
 use Rattle.std.proofs.lemmas.Bool.{true≢false}
 use Rattle.std.proofs.lemmas.Bool.Decides.{Decides-eqb}
 use Rattle.std.proofs.lemmas.Slice.Eq.{bytes_eq-Decides}
@@ -8,14 +8,14 @@ use Rattle.std.specs.List.{before_first}
 use Rattle.clap.specs.Lexer.{long_of, short_of, name_and_value}
 use Rattle.clap.specs.Walk.{Held, Walk, Waiting, idle, option, positional, arg_by_long, walked, word_met, has_row, is_pending}
 use Rattle.clap.specs.Takes.{turn_passes, settle_passes, react_passes}
-use Rattle.clap.specs.Faults.{turn_fault, settle_fault, step_fault, long_fault, option_fault, react_fault}
+use Rattle.clap.specs.Faults.{turn_fault, settle_fault, step_fault, long_fault, react_fault}
 use Rattle.clap.specs.Kinds.{or_else, Kinds}
 use Rattle.clap.specs.declared.error.kind.ErrorKind.{ErrorKind}
 use Rattle.command_words.specs.Texts.{Text, OptionName, steps, order, Word, plain, names, sets, stray, begins_with_hyphen, after, hyphened, word_of, sets_one_of}
 use Rattle.command_words.specs.Hyphens.{is_double, is_fit}
 use Rattle.command_words.proofs.Rows.{two_sides}
 use Rattle.command_words.proofs.Spelling.{named, after_only, none_some, and_false}
-use Rattle.command_words.proofs.Slots.{shape, rules, Slot, first, second, valued, id_of, option_text, option_built, rule_at, rows_of, with_pending, with_used}
+use Rattle.command_words.proofs.Slots.{shape, rules, first, second, valued, id_of, option_text, option_built, rule_at, rows_of, with_pending, with_used}
 
 -- the walk between two words
 abbrev pub at : Held → ℕ → Walk
@@ -192,9 +192,9 @@ pub fault_plain : (h : Held) (k : ℕ) (w : Text) → begins_with_hyphen w ≡ f
 fault_plain h k w e f which = ⊎_elim
     (λ (is : k ≡ 1). subst (λ (n : ℕ). Fails (turn_fault shape [] (at h n) w)) (sym is) (rw (fault_first h w e) f))
     (λ (rest : (k ≡ 2) ⊎ (k ≡ 3)). ⊎_elim
-        (λ (is : k ≡ 2). subst (λ (n : ℕ). Fails (turn_fault shape [] (at h n) w)) (sym is) (rw (fault_second h w e) f))
-        (λ (is : k ≡ 3). subst (λ (n : ℕ). Fails (turn_fault shape [] (at h n) w)) (sym is) (fault_third h w e))
-        rest)
+    (λ (is : k ≡ 2). subst (λ (n : ℕ). Fails (turn_fault shape [] (at h n) w)) (sym is) (rw (fault_second h w e) f))
+    (λ (is : k ≡ 3). subst (λ (n : ℕ). Fails (turn_fault shape [] (at h n) w)) (sym is) (fault_third h w e))
+    rest)
     which
 
 -- ---- what kind of word it is

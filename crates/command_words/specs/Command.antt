@@ -1,5 +1,5 @@
 -- The command line in the terms of `clap`, for the proofs; and the parts that a split gives.
-use Rattle.std.specs.Prelude.{Bool, true, false, Some, codes, option_map}
+use Rattle.std.specs.Prelude.{true, Some, codes, option_map}
 use Rattle.clap.specs.Words.{App, Rule, new_app, new_rule, with_rule}
 use Rattle.clap.specs.Simple.{on_top}
 use Rattle.clap.specs.declared.builder.action.ArgAction.TheVariants.{Set}

@@ -1,5 +1,5 @@
 -- The words that are refused before the others are split.
-use Rattle.std.specs.Prelude.{ℕ, ◌==◌, Bool, true, false, List, [], ◌∷◌, if◌then◌else◌}
+use Rattle.std.specs.Prelude.{◌==◌, Bool, true, false, [], ◌∷◌, if◌then◌else◌}
 use Rattle.command_words.specs.Texts.{Text}
 
 abbrev pub is_double : Text → Bool

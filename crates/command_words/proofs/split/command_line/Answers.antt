@@ -1,5 +1,5 @@
 use Rattle.std.proofs.Common.{rules, ◌≡◌, codes}
-use Rattle.clap.specs.Words.{app_of, with_rule}
+use Rattle.clap.specs.Words.{app_of}
 use Rattle.command_words.specs.Command.{bare_app, option_rule, plain_rule}
 use Rattle.command_words.proofs.Commands.{added}
 use Rattle.command_words.proofs.split.command_line.Goals as goal

@@ -1,5 +1,5 @@
 -- What the split gives is what `clap` found, for fit words.
-use Rattle.std.proofs.Common.{◌≡◌, map, string_bytes, true, List, [], sym, ap, ◌∙◌, subst, refl}
+use Rattle.std.proofs.Common.{◌≡◌, map, string_bytes, true, [], sym, ap, ◌∙◌, subst, refl}
 use Rattle.clap.specs.Words.{app_of, is_simple, matches_of, fault_of, takes, is_simple_and_free, found_of, subcommand_rows_of, subcommand_of}
 use Rattle.clap.specs.Walk.{first_of, rows_of}
 use Rattle.clap.proofs.WalkLemmas.{first_value-rows}
