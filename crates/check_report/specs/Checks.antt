@@ -15,7 +15,7 @@ pressure_line c facts =
     ++ codes " regions " ++ decimal facts.regions ++ newline
 
 -- `unreachable C LINE`
-abbrev pub unreachable_line : ℕ → ℕ → List ℕ
+unfoldable pub unreachable_line : ℕ → ℕ → List ℕ
 unreachable_line c line = codes "unreachable " ++ decimal c ++ codes " " ++ decimal line ++ newline
 
 -- of a context its pressures, then its unreachable instructions

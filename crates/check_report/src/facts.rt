@@ -26,14 +26,15 @@ pub struct Facts {
 pub(crate) fn all_facts(alloc: Global, programs: &[Program]) -> Result<List<Facts>, NoMemory>
     requires { All (λ program. IsClosedCode program.code) programs.now }
     ensures exact { IfOk result (λ all. AreAllFacts programs.now all) }
+    ensures one_each { IfOk result (λ all. length all ≡ length programs.now) }
     ensures parts { IfOk result (λ all. All (λ facts. IsPart facts.pressure) all) }
 {
     let mut all = List::new(alloc);
     for program in programs {
         let facts = facts_of(alloc, program)?;
-        if all.push(facts).is_err() {
+        let Ok(()) = all.push(facts) else {
             return Err(NoMemory);
-        }
+        };
     }
     Ok(all)
 }
@@ -55,6 +56,7 @@ fn facts_of(alloc: Global, program: &Program) -> Result<Facts, NoMemory>
 }
 
 /// The lines of the instructions that no path reaches.
+#[tactic(auto, using(crate::proofs::Gathering::next_list))]
 fn unreachable_lines(alloc: Global, code: &[Line], flow: &Flow) -> Result<List<u32>, NoMemory>
     requires few { length code.now ≤ 2048 }
     requires flow { IsFlowOf code.now flow.now }
@@ -65,9 +67,9 @@ fn unreachable_lines(alloc: Global, code: &[Line], flow: &Flow) -> Result<List<u
         if flow.reachable(i as u32) {
             continue;
         }
-        if lines.push(code[i].line).is_err() {
+        let Ok(()) = lines.push(code[i].line) else {
             return Err(NoMemory);
-        }
+        };
     }
     Ok(lines)
 }
@@ -77,9 +79,9 @@ pub(crate) fn pressures_in(alloc: Global, all: &[Facts]) -> Result<List<Pressure
 {
     let mut parts = List::new(alloc);
     for facts in all {
-        if parts.push(facts.pressure).is_err() {
+        let Ok(()) = parts.push(facts.pressure) else {
             return Err(NoMemory);
-        }
+        };
     }
     Ok(parts)
 }

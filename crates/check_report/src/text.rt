@@ -17,7 +17,6 @@ use std::alloc::Global;
 
 /// The text that tells for each context its pressures, its regions and its unreachable lines, and
 /// last what all contexts need of the file.
-#[tactic(auto, using(crate::proofs::Gathering::all_closed))]
 pub fn print_check(alloc: Global, bundle: &Bundle) -> Result<Vec<u8>, NoMemory>
     requires formed { IsFormedBundle bundle.now }
     ensures { IfOk result (λ text. IsCheckOf bundle.now text.items) }
@@ -90,6 +89,7 @@ fn put_unreachable(text: &mut Vec<u8>, c: u32, lines: &[u32]) -> Result<(), NoMe
     Ok(())
 }
 
+#[tactic(auto, unfolding(crate::specs::Checks::unreachable_line))]
 fn put_unreachable_line(text: &mut Vec<u8>, c: u32, line: u32) -> Result<(), NoMemory>
     ensures { OnOk result (text.new.items ≡ text.old.items ++ unreachable_line c line) }
 {
