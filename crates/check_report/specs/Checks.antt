@@ -35,3 +35,7 @@ check_text all file =
 -- the text tells of this bundle what its contexts need
 abbrev pub IsCheckOf : Bundle → List ℕ → Type 0
 IsCheckOf bundle text = (all : List Facts) × AreAllFacts bundle.programs all × (text ≡ check_text all bundle.file)
+
+-- no two texts do so
+abbrev pub HasOneCheck : Bundle → Type 0
+HasOneCheck bundle = (s t : List ℕ) → IsCheckOf bundle s → IsCheckOf bundle t → s ≡ t

@@ -7,7 +7,7 @@ ghost use Rattle.micro_isa.specs.Formed.{IsFormedBundle};
 ghost use Rattle.pressure.specs.Pressures.{IsPart, need_of};
 ghost use Rattle.check_report.specs.Text.{in_order};
 ghost use Rattle.check_report.specs.Facts.{AreAllFacts};
-ghost use Rattle.check_report.specs.Checks.{pressure_line, unreachable_line, context_lines, need_line, check_text, IsCheckOf};
+ghost use Rattle.check_report.specs.Checks.{pressure_line, unreachable_line, context_lines, need_line, check_text, IsCheckOf, HasOneCheck};
 
 use crate::facts::{Facts, all_facts, pressures_in};
 use micro_isa::{Bundle, List, NoMemory};
@@ -16,10 +16,11 @@ use pressure::need;
 use std::alloc::Global;
 
 /// The text that tells for each context its pressures, its regions and its unreachable lines, and
-/// last what all contexts need of the file.
+/// last what all contexts need of the file. A bundle has one such text.
 pub fn print_check(alloc: Global, bundle: &Bundle) -> Result<Vec<u8>, NoMemory>
     requires formed { IsFormedBundle bundle.now }
-    ensures { IfOk result (λ text. IsCheckOf bundle.now text.items) }
+    ensures text { IfOk result (λ text. IsCheckOf bundle.now text.items) }
+    ensures once { HasOneCheck bundle.now }
 {
     let all = all_facts(alloc, bundle.programs.as_slice())?;
     print_facts(alloc, &all, bundle.file)
