@@ -4,9 +4,7 @@ use Rattle.std.specs.Prelude.{◌&&◌}
 use Rattle.std.specs.List.{list_all}
 use Rattle.std.proofs.lemmas.Option.{same_Some}
 use Rattle.micro_isa.specs.declared.program.Line.{Line}
-use Rattle.micro_isa.specs.declared.program.Label.{Label}
 use Rattle.micro_isa.specs.declared.program.Program.{Program}
-use Rattle.micro_isa.specs.declared.program.Channel.{Channel}
 use Rattle.micro_isa.specs.declared.program.Bundle.{Bundle}
 use Rattle.micro_isa.specs.Formed.{Each, names_below, is_labelled, target_of, always_rises, never_falls, fits_channels, IsFormedProgram, IsFormedBundle}
 use Rattle.check_report.specs.Example.{adder, sum_lines, two_adders, jumper, halter, lost_pair}

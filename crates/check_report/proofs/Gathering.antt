@@ -1,16 +1,15 @@
 -- Facts of one program more.
-use Rattle.std.proofs.Common.{◌≡◌, ℕ, zero, suc, ◌+◌, List, [], ◌∷◌, ◌++◌, map, length, ap, add-one, get_or, take, ◌<◌}
+use Rattle.std.proofs.Common.{◌≡◌, ℕ, ◌+◌, List, [], ◌∷◌, ◌++◌, map, length, ap, add-one, get_or, take, ◌<◌}
 use Rattle.std.specs.List.{All, AllZip}
 use Rattle.std.proofs.lemmas.List.Elements.{All-map}
 use Rattle.std.proofs.Math.Seq.{take-suc}
 use Rattle.std.proofs.lemmas.Option.{slice_get-get_or}
 use Rattle.micro_isa.specs.declared.program.Program.{Program}
 use Rattle.micro_isa.specs.declared.program.Bundle.{Bundle}
-use Rattle.micro_isa.specs.Formed.{Each, IsFormedProgram, IsFormedBundle}
+use Rattle.micro_isa.specs.Formed.{IsFormedBundle}
 use Rattle.flow_graph.specs.Paths.{IsClosedCode}
 use Rattle.flow_graph.proofs.Forming.{closed_code}
 use Rattle.pressure.specs.Pressures.{IsPart}
-use Rattle.pressure.specs.declared.pressure_of.Pressure.{Pressure}
 use Rattle.check_report.specs.declared.facts.Facts.{Facts}
 use Rattle.check_report.specs.Text.{in_order}
 use Rattle.check_report.specs.Facts.{AreFactsOf, AreAllFacts}

@@ -1,15 +1,14 @@
 -- A bundle has one text: two facts of one program are the same.
-use Rattle.std.proofs.Common.{◌≡◌, ℕ, zero, suc, ◌+◌, ◌<◌, ◌≤◌, ◌↔◌, ◌++◌, Bool, true, false, List, [], ◌∷◌, length, refl, sym, ap, ◌∙◌, subst, inl, inr, arith}
+use Rattle.std.proofs.Common.{◌≡◌, ℕ, zero, suc, ◌<◌, ◌≤◌, ◌↔◌, Bool, true, false, List, [], ◌∷◌, length, refl, sym, ap, ◌∙◌, subst, inl, inr, arith}
 use Rattle.std.specs.Prelude.{◌||◌, slice_get, slice_index, slice_index_or}
-use Rattle.std.specs.List.{AllZip, list_any}
+use Rattle.std.specs.List.{list_any}
 use Rattle.std.proofs.Math.Dec.{eqb}
 use Rattle.std.proofs.lemmas.Bool.{cases_eq, eq-eqb}
 use Rattle.std.proofs.lemmas.Map.Steps.{le-length_from_below}
 use Rattle.micro_isa.specs.declared.program.Line.{Line}
 use Rattle.micro_isa.specs.declared.program.Program.{Program}
 use Rattle.micro_isa.specs.declared.program.Bundle.{Bundle}
-use Rattle.pressure.specs.declared.pressure_of.Pressure.{Pressure}
-use Rattle.pressure.specs.Pressures.{IsPrivatePressure, IsTotalPressure, IsPressureOf}
+use Rattle.pressure.specs.Pressures.{IsPrivatePressure, IsTotalPressure}
 use Rattle.pressure.specs.Regions.{IsNumbered}
 use Rattle.check_report.specs.declared.facts.Facts.{Facts}
 use Rattle.check_report.specs.Text.{in_order}
@@ -55,22 +54,25 @@ module _ (code : List Line) (ns ms : List ℕ) (n m : ℕ) (as_n : IsNumbered co
   covers (suc j) h =
       let before = covers j (omega arith) in
       let pick = as_m.each j (omega arith) in
-      let first = slice_index ns pick.0 in
-      (first ∷ before.0, ap suc before.1, λ i inside less. elim (cases_eq (slice_index ms i) j) [
-        | inl same ↦
-            let one : slice_index ms i ≡ slice_index ms pick.0 = same ∙ sym pick.2 in
-            let also = (as_n.same i pick.0 inside pick.1).1 ((as_m.same i pick.0 inside pick.1).0 one) in
-            or_left (eqb (slice_index ns i) first) (list_any (eqb (slice_index ns i)) before.0) (eq-eqb (slice_index ns i) first also)
-        | inr other ↦
-            or_right (eqb (slice_index ns i) first) (list_any (eqb (slice_index ns i)) before.0) (before.2 i inside (omega arith))
-      ])
+      let first = slice_index ns pick.0 in (
+        first ∷ before.0,
+        ap suc before.1,
+        λ i inside less. elim (cases_eq (slice_index ms i) j) [
+          | inl same ↦
+              let one : slice_index ms i ≡ slice_index ms pick.0 = same ∙ sym pick.2 in
+              let also = (as_n.same i pick.0 inside pick.1).1 ((as_m.same i pick.0 inside pick.1).0 one) in
+              or_left (eqb (slice_index ns i) first) (list_any (eqb (slice_index ns i)) before.0) (eq-eqb (slice_index ns i) first also)
+          | inr other ↦
+              or_right (eqb (slice_index ns i) first) (list_any (eqb (slice_index ns i)) before.0) (before.2 i inside (omega arith))
+        ],
+      )
 
   count_le : n ≤ m
   count_le =
       let all = covers m (omega arith) in
       subst (λ k. n ≤ k) all.1 (le-length_from_below all.0 n (λ q less.
-          let at = as_n.each q less in
-          subst (λ k. list_any (eqb k) all.0 ≡ true) at.2 (all.2 at.0 at.1 (as_m.below at.0 at.1))))
+      let at = as_n.each q less in
+      subst (λ k. list_any (eqb k) all.0 ≡ true) at.2 (all.2 at.0 at.1 (as_m.below at.0 at.1))))
 
 same_count : (code : List Line) (n m : ℕ) → HasRegions code n → HasRegions code m → n ≡ m
 same_count code n m one other =

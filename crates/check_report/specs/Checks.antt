@@ -2,7 +2,6 @@
 use Rattle.std.specs.Prelude.{ℕ, ◌≡◌, List, [], ◌++◌, Option, Some, None, length, map, slice_get, decimal, codes}
 use Rattle.std.specs.List.{flat_map}
 use Rattle.micro_isa.specs.declared.program.Bundle.{Bundle}
-use Rattle.pressure.specs.declared.pressure_of.Pressure.{Pressure}
 use Rattle.pressure.specs.Pressures.{need_of}
 use Rattle.check_report.specs.declared.facts.Facts.{Facts}
 use Rattle.check_report.specs.Text.{newline, in_order}

@@ -174,10 +174,12 @@ fn texts_of_known_bundles(rt: HostRuntime) {
     let alloc = rt.alloc();
     let adders = two_adders(alloc).expect(&rt, "ample memory");
     let text = print_check(alloc, &adders).expect(&rt, "ample memory");
-    let wanted = b"context 0 private 1 all 2 regions 3\ncontext 1 private 1 all 2 regions 3\nneed 3 file 3\n";
+    let wanted =
+        b"context 0 private 1 all 2 regions 3\ncontext 1 private 1 all 2 regions 3\nneed 3 file 3\n";
     assert_eq!(rt; text.as_slice(), wanted.as_slice());
     let lost = lost_pair(alloc).expect(&rt, "ample memory");
     let text = print_check(alloc, &lost).expect(&rt, "ample memory");
-    let wanted = b"context 0 private 0 all 1 regions 2\nunreachable 0 4\nunreachable 0 5\ncontext 1 private 0 all 0 regions 2\nunreachable 1 9\nunreachable 1 10\nneed 1 file 1\n";
+    let wanted =
+        b"context 0 private 0 all 1 regions 2\nunreachable 0 4\nunreachable 0 5\ncontext 1 private 0 all 0 regions 2\nunreachable 1 9\nunreachable 1 10\nneed 1 file 1\n";
     assert_eq!(rt; text.as_slice(), wanted.as_slice());
 }

@@ -1,5 +1,5 @@
 -- The code of a formed program is closed, so the analyses take it.
-use Rattle.std.proofs.Common.{◌≡◌, ℕ, zero, suc, ◌+◌, ◌-◌, ◌<◌, ◌≤◌, List, [], ◌∷◌, map, length, Option, Some, None, Bool, true, false, refl, sym, subst, ◌∙◌, inl, inr, arith}
+use Rattle.std.proofs.Common.{◌≡◌, ℕ, ◌+◌, ◌-◌, ◌<◌, ◌≤◌, List, [], ◌∷◌, map, length, Option, Some, None, Bool, true, false, refl, sym, subst, ◌∙◌, inl, inr, arith}
 use Rattle.std.specs.Prelude.{◌&&◌, nat_lt, slice_get, ⊤}
 use Rattle.std.specs.List.{list_all}
 use Rattle.std.proofs.lemmas.Bool.{ltb-true, ltb-false}
@@ -9,10 +9,9 @@ use Rattle.micro_isa.specs.declared.instr.Instr.TheVariants.{Li, Mov, Alu, Div, 
 use Rattle.micro_isa.specs.declared.program.VReg.{VReg}
 use Rattle.micro_isa.specs.declared.program.Line.{Line}
 use Rattle.micro_isa.specs.declared.program.Program.{Program}
-use Rattle.micro_isa.specs.declared.program.Bundle.{Bundle}
-use Rattle.micro_isa.specs.Columns.{reads_in, written_by, next_of}
-use Rattle.micro_isa.specs.Formed.{Each, registers_in, target_of, never_falls, names_below, all_below, option_below, IsFormedProgram, IsFormedBundle}
-use Rattle.flow_graph.specs.Paths.{GoesTo, Edge, IsSmall, HasSmallRegisters, IsClosedCode}
+use Rattle.micro_isa.specs.Columns.{next_of}
+use Rattle.micro_isa.specs.Formed.{registers_in, target_of, never_falls, all_below, option_below, IsFormedProgram}
+use Rattle.flow_graph.specs.Paths.{HasSmallRegisters, IsClosedCode}
 
 and_left : (a b : Bool) → (a && b) ≡ true → a ≡ true
 and_left true b h = refl
@@ -101,7 +100,7 @@ module _ (p : Program) (formed : IsFormedProgram p) where
       let both = formed.named i line is in
       let names = all_below (length p.registers) (map (λ r. r.0) (registers_in line.instr)) in
       target_below (length p.code) j (target_of line.instr) (and_right names (option_below (length p.code) (target_of line.instr)) both)
-          (sym (jumps_to line.instr i) ∙ e)
+      (sym (jumps_to line.instr i) ∙ e)
 
   -- the last instruction does not fall
   last_stops : (i : ℕ) (line : Line) → slice_get p.code i ≡ Some line → never_falls line.instr ≡ false → length p.code ≤ i + 1 → ⊥

@@ -1,4 +1,4 @@
-use Rattle.std.proofs.Common.{◌≡◌, ◌++◌, ◌∷◌, [], length, subst, ap, ◌∙◌, arith}
+use Rattle.std.proofs.Common.{◌∷◌, [], length, subst, ap, arith}
 use Rattle.std.proofs.lemmas.List.{length-append}
 use Rattle.std.proofs.lemmas.List.Elements.{All-push}
 use Rattle.pressure.specs.Pressures.{IsPart}
