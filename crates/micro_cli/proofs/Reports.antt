@@ -25,7 +25,7 @@ pub closed_opening : (b : Bundle) → IsStraight b → has_open_input (opening_w
 closed_opening b straight = ap (λ chs. list_any is_open_input (map opened_channel chs)) straight.output
 
 -- what a run from the opening leaves is what the report tells
-pub report_is : (m : Image) (need : ℕ) (answer : Status) (text : List ℕ) (before after : EngineState) (entries : List Entry) (end : End) → before.image ≡ m → moment_of before ≡ machine_open m 100000 → IsRoundRun before after entries end → answer ≡ status_of end after.core.phases → text ≡ report_text (Some need) (Some m) m.setting.channels entries (record { view = shown_core after.core; file = Some after.file; ending = Some end }) → IsReport m need answer text
+pub report_is : (m : Image) (need : ℕ) (answer : Status) (text : List ℕ) (before after : EngineState) (entries : List Entry) (end : End) → before.image ≡ m → moment_of before ≡ machine_open m 100000 → IsRoundRun (machine_side before.image) (moment_of before) (moment_of after) entries end → answer ≡ status_of end after.core.phases → text ≡ report_text (Some need) (Some m) m.setting.channels entries (record { view = shown_core after.core; file = Some after.file; ending = Some end }) → IsReport m need answer text
 report_is m need answer text before after entries end is_image opens run answered told = record {
   entries = entries;
   last = moment_of after;

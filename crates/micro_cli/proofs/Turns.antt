@@ -16,20 +16,18 @@ use Rattle.world.specs.declared.event.Illegal.TheVariants as illegal
 use Rattle.world.specs.declared.event.End.TheVariants as ending
 use Rattle.world.specs.WorldState.{WorldState, has_open_input}
 use Rattle.meanings.specs.Core.{Core, can_go_on, is_runnable, illegal_of, has_ended, some_runnable, ending_of}
-use Rattle.meanings.specs.Events.{Side, happens, unless_illegal, step}
+use Rattle.meanings.specs.Events.{Side, Moment, happens, unless_illegal, step}
 use Rattle.meanings.specs.Entries.{event_of, LeadsTo}
 use Rattle.meanings.specs.Rounds.{behind, next_in_round, last_after, last_of, KeepsOrder, InRoundOrder}
-use Rattle.meanings.specs.Machine.{Machine, machine_side}
 use Rattle.meanings.proofs.Histories.{leads_more, order_more, last_of-append}
-use Rattle.engine_core.specs.EngineState.{EngineState, moment_of}
-use Rattle.engine_core.specs.Segments.{GoesOn}
+use Rattle.run_core.specs.Segments.{GoesOn}
 use Rattle.micro_cli.specs.RoundRuns.{IsTurn, IsRoundRun, RunSoFar}
 
 -- a segment that may happen, and its entry
-pub turn_is : (before after : EngineState) (c : ℕ) (s : Segment) → illegal_of before.core (Run c) ≡ None → happens (machine_side before.image) (moment_of before) (Run c) ≡ (moment_of after, seen.Ran s) → IsTurn before after c (Ran c s.steps s.end)
-turn_is before after c s legal happened = record {
+pub turn_is : {X : Type 0} (side : Side X) (before after : Moment X) (c : ℕ) (s : Segment) → illegal_of before.core (Run c) ≡ None → happens side before (Run c) ≡ (after, seen.Ran s) → IsTurn side before after c (Ran c s.steps s.end)
+turn_is side before after c s legal happened = record {
   seen = seen.Ran s;
-  happened = ap (λ o. unless_illegal o (happens (machine_side before.image) (moment_of before) (Run c))) legal ∙ ap Some happened;
+  happened = ap (λ o. unless_illegal o (happens side before (Run c))) legal ∙ ap Some happened;
   told = refl;
   steps = s.steps;
   end = s.end;
@@ -161,21 +159,17 @@ next_is_legal core last c goes h =
     legal_by core c (nat_lt c (length core.phases)) refl (there_where core.world core.phases c can) (still core goes).open_still can
 
 -- a turn adds its entry to the journal
-pub turn_more : (before now after : EngineState) (entries : List Entry) (last : Option ℕ) (c : ℕ) (e : Entry) → RunSoFar before now entries last → next_in_round now.core last ≡ Some c → after.image ≡ now.image → GoesOn now.core after.core → IsTurn now after c e → c < 8 → RunSoFar before after (entries ++ e ∷ []) (Some c)
-turn_more before now after entries last c e so next image goes turn low = record {
-  image = image ∙ so.image;
+pub turn_more : {X : Type 0} (side turning : Side X) (before now after : Moment X) (entries : List Entry) (last : Option ℕ) (c : ℕ) (e : Entry) → turning ≡ side → RunSoFar side before now entries last → next_in_round now.core last ≡ Some c → GoesOn now.core after.core → IsTurn turning now after c e → c < 8 → RunSoFar side before after (entries ++ e ∷ []) (Some c)
+turn_more side turning before now after entries last c e same so next goes turn low = record {
   closed = goes.inputs ∙ so.closed;
-  legal = leads_more side (moment_of before) (moment_of now) (moment_of after) entries e turn.seen so.legal happened turn.told;
-  order = order_more side (moment_of before) (moment_of now) None entries e so.legal so.order keeps;
+  legal = leads_more side before now after entries e turn.seen so.legal happened turn.told;
+  order = order_more side before now None entries e so.legal so.order keeps;
   small = λ x is. subst (λ y. y < 8) (same_Some c x is) low;
   latest = last_of-append None entries e ∙ ap (last_after (last_of None entries)) turn.ran;
 }
   where
-    side : Side Machine
-    side = machine_side before.image
-
-    happened : step (machine_side before.image) (moment_of now) (event_of e) ≡ Some (moment_of after, turn.seen)
-    happened = (λ i. step (machine_side (sym so.image i)) (moment_of now) (event_of e)) ∙ turn.happened
+    happened : step side now (event_of e) ≡ Some (after, turn.seen)
+    happened = (λ i. step (sym same i) now (event_of e)) ∙ turn.happened
 
     keeps : KeepsOrder now.core (last_of None entries) e
     keeps = subst (λ x. KeepsOrder now.core (last_of None entries) x) (sym turn.ran) (ap (next_in_round now.core) so.latest ∙ next)

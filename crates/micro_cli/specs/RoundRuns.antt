@@ -8,32 +8,29 @@ use Rattle.world.specs.declared.event.SegmentEnd.{SegmentEnd}
 use Rattle.world.specs.declared.event.End.{End}
 use Rattle.world.specs.WorldState.{has_open_input}
 use Rattle.meanings.specs.Core.{ending_of}
-use Rattle.meanings.specs.Events.{step}
+use Rattle.meanings.specs.Events.{Side, Moment, step}
 use Rattle.meanings.specs.Entries.{event_of, entry_seen, LeadsTo}
 use Rattle.meanings.specs.Rounds.{InRoundOrder, last_of}
-use Rattle.meanings.specs.Machine.{machine_side}
-use Rattle.engine_core.specs.EngineState.{EngineState, moment_of}
 
 -- one segment of a context, and the entry that tells it
-pub record IsTurn (before after : EngineState) (context : ℕ) (e : Entry) : Type 0 where
+pub record IsTurn {X : Type 0} (side : Side X) (before after : Moment X) (context : ℕ) (e : Entry) : Type 0 where
   pub seen : Seen
-  pub happened : step (machine_side before.image) (moment_of before) (event_of e) ≡ Some (moment_of after, seen)
+  pub happened : step side before (event_of e) ≡ Some (after, seen)
   pub told : entry_seen e seen ≡ e
   pub steps : ℕ
   pub end : SegmentEnd
   pub ran : e ≡ Ran context steps end
 
--- from one state of an engine to another, with this journal and this ending
-pub record IsRoundRun (before after : EngineState) (entries : List Entry) (end : End) : Type 0 where
-  pub legal : LeadsTo (machine_side before.image) (moment_of before) entries (moment_of after)
-  pub order : InRoundOrder (machine_side before.image) (moment_of before) None entries
+-- from one moment of a run to another, with this journal and this ending
+pub record IsRoundRun {X : Type 0} (side : Side X) (before after : Moment X) (entries : List Entry) (end : End) : Type 0 where
+  pub legal : LeadsTo side before entries after
+  pub order : InRoundOrder side before None entries
   pub ended : ending_of after.core ≡ Some end
 
 -- a run in round order that goes on: the journal so far, and the last context that ran
-pub record RunSoFar (before now : EngineState) (entries : List Entry) (last : Option ℕ) : Type 0 where
-  pub image : now.image ≡ before.image
+pub record RunSoFar {X : Type 0} (side : Side X) (before now : Moment X) (entries : List Entry) (last : Option ℕ) : Type 0 where
   pub closed : has_open_input now.core.world ≡ false
-  pub legal : LeadsTo (machine_side before.image) (moment_of before) entries (moment_of now)
-  pub order : InRoundOrder (machine_side before.image) (moment_of before) None entries
+  pub legal : LeadsTo side before entries now
+  pub order : InRoundOrder side before None entries
   pub small : ForSome last (λ c. c < 8)
   pub latest : last_of None entries ≡ last

@@ -5,5 +5,6 @@ use Rattle.meanings.specs.Core.{is_runnable}
 use Rattle.micro_cli.proofs.rounds.first_runnable.Given as goal
 
 abbrev pub invariant-contexts : goal.invariant-contexts
-invariant-contexts l =
-    find (is_runnable l.engine.core) (range_with_len l.context (l.to - l.context)) ≡ find (is_runnable l.engine.core) (range_with_len l.from (l.to - l.from))
+invariant-contexts g l =
+    let core = (g.I.Interpreter.moment l.interpreter).core in
+    find (is_runnable core) (range_with_len l.context (l.to - l.context)) ≡ find (is_runnable core) (range_with_len l.from (l.to - l.from))

@@ -6,10 +6,12 @@ use Rattle.micro_cli.proofs.Turns.{next_found, next_missed}
 use Rattle.micro_cli.proofs.rounds.next_behind.Goals as goal
 
 pub returns-in-Some-clause-next : goal.returns-in-Some-clause-next
-returns-in-Some-clause-next c =
-    next_found (is_runnable c.args.engine.now.core) _ c.args.last c.in-Some.context (c.in-Some.ensures.found ∙ ap (λ n. find (is_runnable c.args.engine.now.core) (range_with_len (c.args.last + 1) (n - (c.args.last + 1)))) c.contexts.ensures.number)
+returns-in-Some-clause-next g c =
+    let core = (g.I.Interpreter.moment c.args.interpreter.now).core in
+    next_found (is_runnable core) _ c.args.last c.in-Some.context (c.in-Some.ensures.found ∙ ap (λ n. find (is_runnable core) (range_with_len (c.args.last + 1) (n - (c.args.last + 1)))) c.contexts.ensures.number)
 
 pub returns-in-None-clause-next : goal.returns-in-None-clause-next
-returns-in-None-clause-next c =
+returns-in-None-clause-next g c =
+    let core = (g.I.Interpreter.moment c.args.interpreter.now).core in
     c.first_runnable-in-None.ensures.found
-    ∙ next_missed (is_runnable c.args.engine.now.core) _ c.args.last (c.in-None.ensures.found ∙ ap (λ n. find (is_runnable c.args.engine.now.core) (range_with_len (c.args.last + 1) (n - (c.args.last + 1)))) c.contexts.ensures.number)
+    ∙ next_missed (is_runnable core) _ c.args.last (c.in-None.ensures.found ∙ ap (λ n. find (is_runnable core) (range_with_len (c.args.last + 1) (n - (c.args.last + 1)))) c.contexts.ensures.number)
