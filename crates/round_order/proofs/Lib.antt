@@ -1,4 +1,3 @@
 pub mod Unplugging
 pub mod Rounds
-pub mod Histories
-pub mod Engines
+pub mod Starts

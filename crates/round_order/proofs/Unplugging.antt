@@ -4,9 +4,7 @@ use Rattle.std.specs.Prelude.{slice_get, ◌||◌, ◌&&◌, if◌then◌else◌
 use Rattle.std.specs.List.{list_any}
 use Rattle.std.proofs.lemmas.Bool.{cases_eq, cases_lt}
 use Rattle.std.proofs.lemmas.List.{append-nil}
-use Rattle.world.specs.declared.event.Event.{Event}
 use Rattle.world.specs.declared.event.Event.TheVariants.{Unplug}
-use Rattle.world.specs.declared.event.Seen.{Seen}
 use Rattle.world.specs.declared.event.Seen.TheVariants as seen
 use Rattle.world.specs.declared.event.Entry.{Entry}
 use Rattle.world.specs.declared.event.Entry.TheVariants.{Unplugged}
@@ -15,11 +13,13 @@ use Rattle.world.specs.declared.event.Illegal.TheVariants as illegal
 use Rattle.world.specs.Channels.{ChannelState, without_port, is_incoming}
 use Rattle.world.specs.WorldState.{WorldState, holds_at, is_plugged, changed_at, after_unplug, is_open_input, has_open_input}
 use Rattle.meanings.specs.Core.{Core, illegal_of, illegal_at_port}
-use Rattle.meanings.specs.Rounds.{last_of}
-use Rattle.meanings.proofs.Histories.{last_of-append}
+use Rattle.meanings.specs.Events.{Side, Moment, happens, unless_illegal, step}
+use Rattle.meanings.specs.Entries.{LeadsTo}
+use Rattle.meanings.specs.Rounds.{InRoundOrder, last_of}
+use Rattle.meanings.proofs.Histories.{leads_more, order_more, last_of-append}
 use Rattle.round_order.specs.Openings.{is_ported, unplugs, unplugs_below, most_channels, IsOpening, IsUnplugged}
-use Rattle.round_order.specs.Journals.{IsTurn, Leads, UnpluggedBy, UnpluggedAt, IsOpened, IsJournal, IsJournalOn}
-use Rattle.round_order.proofs.Histories.{leads_one_more}
+use Rattle.round_order.specs.Journals.{UnpluggedBy, UnpluggedAt, IsOpened, IsJournalOn}
+use Rattle.round_order.specs.RoundRuns.{IsRoundRun}
 
 legal_by : (o : Option ChannelState) → holds_at (λ ch. ch.plugged) o ≡ true → holds_at (λ ch. ch.ported) o ≡ true → illegal_at_port (λ ch. ch.ported) (λ ch. None) o ≡ None
 legal_by None plugged ported = absurd (cc)
@@ -138,14 +138,17 @@ all_unplugs w n le =
     let e : n ≡ length w.channels + (n - length w.channels) = omega (arith, le) in
     ap (unplugs_below w) e ∙ none_behind w (n - length w.channels)
 
--- the opening's unplugging and the turns behind it are one journal
-pub whole_journal : {S : Type 0} (core : S → Core) (happened : S → Event → S → Seen → Type 0) (before middle after : S) (opening entries : List Entry) (end : End) → IsOpening (core before) → IsOpened core happened before most_channels middle opening → IsJournalOn core happened middle after opening entries end → IsJournal core happened before after entries end
-whole_journal core happened before middle after opening entries end begins opened on = record {
-  leads = on.on before opened.leads opened.none;
-  rest = on.rest;
-  begins = on.begins ∙ ap (λ l. l ++ on.rest) (opened.told ∙ all_unplugs (core before).world most_channels begins.few);
-  ended = on.ended;
-}
+-- the opening's unplugging and the turns behind it are one run
+pub whole_run : {X : Type 0} (side : Side X) (before middle after : Moment X) (opening entries : List Entry) (end : End) → IsOpening before.core → IsOpened side before most_channels middle opening → IsJournalOn side middle after opening entries end → IsRoundRun side before after entries end
+whole_run side before middle after opening entries end begins opened on =
+    let whole = on.on before opened.legal opened.order opened.none in
+    record {
+      legal = whole.0;
+      rest = on.rest;
+      begins = on.begins ∙ ap (λ l. l ++ on.rest) (opened.told ∙ all_unplugs before.core.world most_channels begins.few);
+      order = whole.1;
+      ended = on.ended;
+    }
 
 -- where each port was unplugged, no word comes from outside
 pub all_closed : (w : WorldState) (now : Core) → IsUnplugged w most_channels now → has_open_input now.world ≡ false
@@ -154,39 +157,46 @@ all_closed w now so = no_plug now.world.channels (λ j. elim (cases_lt j most_ch
   | inr le ↦ past_all now.world.channels most_channels j so.few le
 ])
 
-pub was_unplugged : {S : Type 0} (core : S → Core) (happened : S → Event → S → Seen → Type 0) (before after : S) (k : ℕ) (es es' : List Entry) → is_plugged (core before).world k ≡ true → happened before (Unplug k) after seen.Unplugged → core after ≡ record (core before) { world = after_unplug (core before).world k } → es' ≡ es ++ Unplugged k ∷ [] → UnpluggedAt core happened before after k es es'
-was_unplugged core happened before after k es es' plugged happens world told =
-    subst (λ b. UnpluggedBy b core happened before after k es es') (sym plugged) (happens, world, told)
+pub was_unplugged : {X : Type 0} (side : Side X) (before after : Moment X) (k : ℕ) (es es' : List Entry) → is_plugged before.core.world k ≡ true → happens side before (Unplug k) ≡ (after, seen.Unplugged) → es' ≡ es ++ Unplugged k ∷ [] → UnpluggedAt side before after k es es'
+was_unplugged side before after k es es' plugged happened told =
+    subst (λ b. UnpluggedBy b side before after k es es') (sym plugged) (happened, told)
 
-pub was_not_plugged : {S : Type 0} (core : S → Core) (happened : S → Event → S → Seen → Type 0) (before : S) (k : ℕ) (es : List Entry) → is_plugged (core before).world k ≡ false → UnpluggedAt core happened before before k es es
-was_not_plugged core happened before k es free =
-    subst (λ b. UnpluggedBy b core happened before before k es es) (sym free) (refl, refl)
+pub was_not_plugged : {X : Type 0} (side : Side X) (before : Moment X) (k : ℕ) (es : List Entry) → is_plugged before.core.world k ≡ false → UnpluggedAt side before before k es es
+was_not_plugged side before k es free = subst (λ b. UnpluggedBy b side before before k es es) (sym free) (refl, refl)
 
 -- the opening, before the first channel was looked at
-pub opened_at_start : {S : Type 0} (core : S → Core) (happened : S → Event → S → Seen → Type 0) (before : S) → IsOpening (core before) → IsOpened core happened before 0 before []
-opened_at_start core happened before opening = record { unplugged = at_start (core before) opening; leads = refl; told = refl; none = refl }
+pub opened_at_start : {X : Type 0} (side : Side X) (before : Moment X) → IsOpening before.core → IsOpened side before 0 before []
+opened_at_start side before opening = record { unplugged = at_start before.core opening; legal = refl; order = tt; told = refl; none = refl }
 
 one_up : (k : ℕ) → suc k ≡ k + 1
 one_up k = omega arith
 
--- one channel more
-pub opened_more : {S : Type 0} (core : S → Core) (happened : S → Event → S → Seen → Type 0) (first before after : S) (k : ℕ) (es es' : List Entry) → IsOpened core happened first k before es → UnpluggedAt core happened before after k es es' → IsOpened core happened first (k + 1) after es'
-opened_more {S} core happened first before after k es es' so did =
-    subst (λ n. IsOpened core happened first n after es') (one_up k) (by (is_plugged (core before).world k) refl did)
-  where
-    by : (b : Bool) → is_plugged (core before).world k ≡ b → UnpluggedBy b core happened before after k es es' → IsOpened core happened first (suc k) after es'
-    by true plugged did =
-        let turn : IsTurn core happened before after (Unplugged k) =
-            record { legal = unplug_is_legal (core before) k so.unplugged.goes plugged (so.unplugged.ports k plugged); seen = seen.Unplugged; happens = did.0; told = refl }
-        in record {
-          unplugged = one_more (core first).world k (core before) (core after) so.unplugged did.1;
-          leads = subst (λ l. Leads core happened first None l after) (sym did.2) (leads_one_more core happened first before after None es (Unplugged k) so.leads turn tt);
-          told = did.2 ∙ ap (λ l. l ++ Unplugged k ∷ []) so.told ∙ ap (λ b. unplugs_below (core first).world k ++ (if b then Unplugged k ∷ [] else [])) (sym (sym (so.unplugged.rest k (omega arith)) ∙ plugged));
-          none = ap (last_of None) did.2 ∙ last_of-append None es (Unplugged k) ∙ so.none;
-        }
-    by false free did = record {
-      unplugged = subst (λ s. IsUnplugged (core first).world (suc k) (core s)) (sym did.0) (none_there (core first).world k (core before) so.unplugged free);
-      leads = subst (λ l. Leads core happened first None l after) (sym did.1) (subst (λ s. Leads core happened first None es s) (sym did.0) so.leads);
-      told = did.1 ∙ so.told ∙ sym (append-nil (unplugs_below (core first).world k)) ∙ ap (λ b. unplugs_below (core first).world k ++ (if b then Unplugged k ∷ [] else [])) (sym (sym (so.unplugged.rest k (omega arith)) ∙ free));
-      none = ap (last_of None) did.1 ∙ so.none;
+-- the entries of the channels below the next one
+told_more : (w : WorldState) (k : ℕ) (b : Bool) (es : List Entry) → es ≡ unplugs_below w k → is_plugged w k ≡ b → es ++ (if b then Unplugged k ∷ [] else []) ≡ unplugs_below w (suc k)
+told_more w k b es told is =
+    ap (λ l. l ++ (if b then Unplugged k ∷ [] else [])) told ∙ ap (λ x. unplugs_below w k ++ (if x then Unplugged k ∷ [] else [])) (sym is)
+
+opened_by : {X : Type 0} (side : Side X) (first before after : Moment X) (k : ℕ) (es es' : List Entry) (b : Bool) → IsOpened side first k before es → is_plugged before.core.world k ≡ b → UnpluggedBy b side before after k es es' → IsOpened side first (suc k) after es'
+opened_by {X} side first before after k es es' true so plugged did =
+    let legal = unplug_is_legal before.core k so.unplugged.goes plugged (so.unplugged.ports k plugged) in
+    let goes : step side before (Unplug k) ≡ Some (after, seen.Unplugged) =
+    ap (λ o. unless_illegal o (happens side before (Unplug k))) legal ∙ ap Some did.0
+    in record {
+      unplugged = one_more first.core.world k before.core after.core so.unplugged (sym (ap (λ p. p.0.core) did.0));
+      legal = subst (λ l. LeadsTo side first l after) (sym did.1) (leads_more side first before after es (Unplugged k) seen.Unplugged so.legal goes refl);
+      order = subst (λ l. InRoundOrder side first None l) (sym did.1) (order_more side first before None es (Unplugged k) so.legal so.order tt);
+      told = did.1 ∙ told_more first.core.world k true es so.told (sym (so.unplugged.rest k (omega arith)) ∙ plugged);
+      none = ap (last_of None) did.1 ∙ last_of-append None es (Unplugged k) ∙ so.none;
     }
+opened_by {X} side first before after k es es' false so free did = record {
+  unplugged = subst (λ m. IsUnplugged first.core.world (suc k) m.core) (sym did.0) (none_there first.core.world k before.core so.unplugged free);
+  legal = subst (λ l. LeadsTo side first l after) (sym did.1) (subst (λ m. LeadsTo side first es m) (sym did.0) so.legal);
+  order = subst (λ l. InRoundOrder side first None l) (sym did.1) so.order;
+  told = did.1 ∙ sym (append-nil es) ∙ told_more first.core.world k false es so.told (sym (so.unplugged.rest k (omega arith)) ∙ free);
+  none = ap (last_of None) did.1 ∙ so.none;
+}
+
+-- one channel more
+pub opened_more : {X : Type 0} (side : Side X) (first before after : Moment X) (k : ℕ) (es es' : List Entry) → IsOpened side first k before es → UnpluggedAt side before after k es es' → IsOpened side first (k + 1) after es'
+opened_more side first before after k es es' so did =
+    subst (λ n. IsOpened side first n after es') (one_up k) (opened_by side first before after k es es' (is_plugged before.core.world k) so refl did)

@@ -1,9 +1,8 @@
 //! Runs in round order: the opening's ports are unplugged, and then each context has its turn.
 #![tactic(auto)]
 
-mod engine_run;
 mod opening;
 mod order;
-mod turns;
+mod runs;
 
-pub use engine_run::{EngineRun, run_engine};
+pub use runs::{EngineRun, SourceRounds, run_engine, run_source};

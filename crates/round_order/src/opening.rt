@@ -5,8 +5,8 @@ ghost use Rattle.world.specs.WorldState.{is_plugged};
 ghost use Rattle.round_order.specs.Openings.{IsOpening, most_channels, is_ported};
 ghost use Rattle.round_order.specs.Journals.{IsOpened, UnpluggedAt};
 
-use crate::turns::Turns;
 use micro_isa::NoMemory;
+use run_core::Interpreter;
 use std::alloc::Global;
 use world::Entry;
 
@@ -14,9 +14,10 @@ use world::Entry;
 const MOST_CHANNELS: u8 = 16;
 
 /// Unplugs each port that is plugged, in channel order, and tells it.
-pub(crate) fn unplug_all<R: Turns>(alloc: Global, run: &mut R) -> Result<Vec<Entry>, NoMemory>
-    requires { IsOpening (R.core run.old) }
-    ensures { IfOk result (λ entries. IsOpened R.core R.happened run.old most_channels run.new entries.items) }
+pub(crate) fn unplug_all<I: Interpreter>(alloc: Global, run: &mut I) -> Result<Vec<Entry>, NoMemory>
+    requires { IsOpening (I.moment run.old).core }
+    ensures side { I.side run.new ≡ I.side run.old }
+    ensures opened { IfOk result (λ entries. IsOpened (I.side run.old) (I.moment run.old) most_channels (I.moment run.new) entries.items) }
 {
     let mut entries = Vec::new(alloc);
     'channels: for channel in 0..MOST_CHANNELS {
@@ -27,10 +28,15 @@ pub(crate) fn unplug_all<R: Turns>(alloc: Global, run: &mut R) -> Result<Vec<Ent
 
 /// Unplugs a channel's port, where it is plugged, and tells it.
 #[tactic(auto, using(crate::proofs::Unplugging::unplug_is_legal, crate::proofs::Unplugging::was_unplugged, crate::proofs::Unplugging::was_not_plugged))]
-fn unplug_at<R: Turns>(entries: &mut Vec<Entry>, run: &mut R, channel: u8) -> Result<(), NoMemory>
-    requires goes { (R.core run.old).over ≡ false }
-    requires ported { is_plugged (R.core run.old).world channel ≡ true → is_ported (R.core run.old).world channel ≡ true }
-    ensures { OnOk result (UnpluggedAt R.core R.happened run.old run.new channel entries.old.items entries.new.items) }
+fn unplug_at<I: Interpreter>(
+    entries: &mut Vec<Entry>,
+    run: &mut I,
+    channel: u8,
+) -> Result<(), NoMemory>
+    requires goes { (I.moment run.old).core.over ≡ false }
+    requires ported { is_plugged (I.moment run.old).core.world channel ≡ true → is_ported (I.moment run.old).core.world channel ≡ true }
+    ensures side { I.side run.new ≡ I.side run.old }
+    ensures unplugged { OnOk result (UnpluggedAt (I.side run.old) (I.moment run.old) (I.moment run.new) channel entries.old.items entries.new.items) }
 {
     if run.plugged(channel) {
         run.unplug(channel);

@@ -7,13 +7,14 @@ ghost use Rattle.world.specs.WorldState.{has_open_input};
 ghost use Rattle.world.specs.declared.event.Event.TheVariants.{Run as RunOf};
 ghost use Rattle.meanings.specs.Core.{illegal_of, is_runnable, ending_of};
 ghost use Rattle.meanings.specs.Rounds.{next_in_round};
-ghost use Rattle.engine_core.specs.Segments.{GoesOn};
-ghost use Rattle.round_order.specs.Journals.{IsTurn, IsOpened, IsJournal, IsJournalOn, RanAs};
-ghost use Rattle.round_order.specs.Openings.{IsOpening, most_channels};
+ghost use Rattle.run_core.specs.Segments.{GoesOn};
+ghost use Rattle.round_order.specs.Journals.{IsTurn, IsJournalOn, RanAs};
+ghost use Rattle.round_order.specs.Openings.{IsOpening};
+ghost use Rattle.round_order.specs.RoundRuns.{IsRoundRun};
 
 use crate::opening::{note, unplug_all};
-use crate::turns::Turns;
 use micro_isa::NoMemory;
+use run_core::Interpreter;
 use std::alloc::Global;
 use world::{End, Entry};
 
@@ -25,9 +26,10 @@ pub(crate) struct Journal {
 }
 
 /// Unplugs the ports, and runs the contexts in round order until the run has an ending.
-pub(crate) fn run_rounds<R: Turns>(alloc: Global, run: &mut R) -> Result<Journal, NoMemory>
-    requires { IsOpening (R.core run.old) }
-    ensures { IfOk result (λ journal. IsJournal R.core R.happened run.old run.new journal.entries.items journal.end) }
+pub(crate) fn run_rounds<I: Interpreter>(alloc: Global, run: &mut I) -> Result<Journal, NoMemory>
+    requires { IsOpening (I.moment run.old).core }
+    ensures side { I.side run.new ≡ I.side run.old }
+    ensures run { IfOk result (λ journal. IsRoundRun (I.side run.old) (I.moment run.old) (I.moment run.new) journal.entries.items journal.end) }
 {
     let entries = unplug_all(alloc, run)?;
     match take_turns(entries, run) {
@@ -37,9 +39,10 @@ pub(crate) fn run_rounds<R: Turns>(alloc: Global, run: &mut R) -> Result<Journal
 }
 
 /// Gives turns in round order, behind the entries of the opening.
-fn take_turns<R: Turns>(entries: Vec<Entry>, run: &mut R) -> Result<Journal, NoMemory>
-    requires { has_open_input (R.core run.old).world ≡ false }
-    ensures { IfOk result (λ journal. IsJournalOn R.core R.happened run.old run.new entries.items journal.entries.items journal.end) }
+fn take_turns<I: Interpreter>(entries: Vec<Entry>, run: &mut I) -> Result<Journal, NoMemory>
+    requires { has_open_input (I.moment run.old).core.world ≡ false }
+    ensures side { I.side run.new ≡ I.side run.old }
+    ensures run { IfOk result (λ journal. IsJournalOn (I.side run.old) (I.moment run.old) (I.moment run.new) entries.items journal.entries.items journal.end) }
 {
     let mut entries = entries;
     let mut last = None;
@@ -56,10 +59,11 @@ fn take_turns<R: Turns>(entries: Vec<Entry>, run: &mut R) -> Result<Journal, NoM
 
 /// One segment of a context, as an entry.
 #[tactic(auto, using(crate::proofs::Rounds::turn_is))]
-fn turn<R: Turns>(run: &mut R, context: u32) -> Entry
-    requires { illegal_of (R.core run.old) (RunOf context) ≡ None }
-    ensures goes_on { GoesOn (R.core run.old) (R.core run.new) }
-    ensures turn { IsTurn R.core R.happened run.old run.new result }
+fn turn<I: Interpreter>(run: &mut I, context: u32) -> Entry
+    requires { illegal_of (I.moment run.old).core (RunOf context) ≡ None }
+    ensures side { I.side run.new ≡ I.side run.old }
+    ensures goes_on { GoesOn (I.moment run.old).core (I.moment run.new).core }
+    ensures turn { IsTurn (I.side run.old) (I.moment run.old) (I.moment run.new) result }
     ensures ran { RanAs context result }
 {
     let segment = run.segment(context);
@@ -72,12 +76,12 @@ fn turn<R: Turns>(run: &mut R, context: u32) -> Entry
 
 /// The context whose turn is next.
 #[tactic(auto, using(crate::proofs::Rounds::somebody_next, crate::proofs::Rounds::next_is_legal))]
-fn next_context<R: Turns>(run: &R, last: Option<u32>) -> u32
+fn next_context<I: Interpreter>(run: &I, last: Option<u32>) -> u32
     requires small { ForSome last (λ c. c < 8) }
-    requires goes_on { ending_of (R.core run.now) ≡ None }
-    requires closed { has_open_input (R.core run.now).world ≡ false }
-    ensures next { next_in_round (R.core run.now) last ≡ Some result }
-    ensures legal { illegal_of (R.core run.now) (RunOf result) ≡ None }
+    requires goes_on { ending_of (I.moment run.now).core ≡ None }
+    requires closed { has_open_input (I.moment run.now).core.world ≡ false }
+    ensures next { next_in_round (I.moment run.now).core last ≡ Some result }
+    ensures legal { illegal_of (I.moment run.now).core (RunOf result) ≡ None }
     ensures small { result < 8 }
 {
     match next_in_round(run, last) {
@@ -87,9 +91,9 @@ fn next_context<R: Turns>(run: &R, last: Option<u32>) -> u32
 }
 
 /// The first runnable context behind the last one that ran, in cyclic order.
-fn next_in_round<R: Turns>(run: &R, last: Option<u32>) -> Option<u32>
+fn next_in_round<I: Interpreter>(run: &I, last: Option<u32>) -> Option<u32>
     requires { ForSome last (λ c. c < 8) }
-    ensures next { result ≡ next_in_round (R.core run.now) last }
+    ensures next { result ≡ next_in_round (I.moment run.now).core last }
     ensures small { IfSome result (λ c. c < 8) }
 {
     match last {
@@ -98,9 +102,9 @@ fn next_in_round<R: Turns>(run: &R, last: Option<u32>) -> Option<u32>
     }
 }
 
-fn next_behind<R: Turns>(run: &R, last: u32) -> Option<u32>
+fn next_behind<I: Interpreter>(run: &I, last: u32) -> Option<u32>
     requires { last < 8 }
-    ensures next { result ≡ next_in_round (R.core run.now) (Some last) }
+    ensures next { result ≡ next_in_round (I.moment run.now).core (Some last) }
     ensures small { IfSome result (λ c. c < 8) }
 {
     match first_runnable(run, last + 1, run.contexts()) {
@@ -111,8 +115,8 @@ fn next_behind<R: Turns>(run: &R, last: u32) -> Option<u32>
 
 /// The first runnable context from `from` on and below `to`.
 #[tactic(auto, using(crate::proofs::Rounds::range_step, crate::proofs::Rounds::range_none))]
-fn first_runnable<R: Turns>(run: &R, from: u32, to: u32) -> Option<u32>
-    ensures found { result ≡ find (is_runnable (R.core run.now)) (range_with_len from (to - from)) }
+fn first_runnable<I: Interpreter>(run: &I, from: u32, to: u32) -> Option<u32>
+    ensures found { result ≡ find (is_runnable (I.moment run.now).core) (range_with_len from (to - from)) }
     ensures below { IfSome result (λ c. c < to) }
 {
     'contexts: for context in from..to {

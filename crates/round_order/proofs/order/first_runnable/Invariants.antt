@@ -6,4 +6,4 @@ use Rattle.round_order.proofs.order.first_runnable.Given as goal
 
 abbrev pub invariant-contexts : goal.invariant-contexts
 invariant-contexts g l =
-    find (is_runnable (g.R.Turns.core l.run)) (range_with_len l.context (l.to - l.context)) ≡ find (is_runnable (g.R.Turns.core l.run)) (range_with_len l.from (l.to - l.from))
+    find (is_runnable (g.I.Interpreter.moment l.run).core) (range_with_len l.context (l.to - l.context)) ≡ find (is_runnable (g.I.Interpreter.moment l.run).core) (range_with_len l.from (l.to - l.from))
