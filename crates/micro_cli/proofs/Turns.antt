@@ -1,5 +1,5 @@
 -- Turns in round order: who is next, and what a turn adds to the run so far.
-use Rattle.std.proofs.Common.{◌≡◌, ◌≢◌, ℕ, zero, suc, ◌+◌, ◌-◌, ◌<◌, ◌≤◌, List, [], ◌∷◌, ◌++◌, length, Option, Some, None, Bool, true, false, refl, sym, ap, ◌∙◌, subst, arith, inl, inr}
+use Rattle.std.proofs.Common.{◌≡◌, ℕ, zero, suc, ◌+◌, ◌-◌, ◌<◌, ◌≤◌, List, [], ◌∷◌, ◌++◌, length, Option, Some, None, Bool, true, false, refl, sym, ap, ◌∙◌, subst, arith, inl, inr}
 use Rattle.std.specs.Prelude.{slice_get, nat_lt, find, ◌||◌, ◌⊎◌, if◌then◌else◌}
 use Rattle.std.specs.List.{list_any, list_all, range_with_len}
 use Rattle.std.proofs.lemmas.Bool.{ltb-true, ltb-false, cases_eq}
@@ -17,11 +17,11 @@ use Rattle.world.specs.declared.event.End.TheVariants as ending
 use Rattle.world.specs.WorldState.{WorldState, has_open_input}
 use Rattle.meanings.specs.Core.{Core, can_go_on, is_runnable, illegal_of, has_ended, some_runnable, ending_of}
 use Rattle.meanings.specs.Events.{Side, Moment, happens, unless_illegal, step}
-use Rattle.meanings.specs.Entries.{event_of, LeadsTo}
-use Rattle.meanings.specs.Rounds.{behind, next_in_round, last_after, last_of, KeepsOrder, InRoundOrder}
+use Rattle.meanings.specs.Entries.{event_of}
+use Rattle.meanings.specs.Rounds.{behind, next_in_round, last_after, last_of, KeepsOrder}
 use Rattle.meanings.proofs.Histories.{leads_more, order_more, last_of-append}
 use Rattle.run_core.specs.Segments.{GoesOn}
-use Rattle.micro_cli.specs.RoundRuns.{IsTurn, IsRoundRun, RunSoFar}
+use Rattle.micro_cli.specs.RoundRuns.{IsTurn, RunSoFar}
 
 -- a segment that may happen, and its entry
 pub turn_is : {X : Type 0} (side : Side X) (before after : Moment X) (c : ℕ) (s : Segment) → illegal_of before.core (Run c) ≡ None → happens side before (Run c) ≡ (after, seen.Ran s) → IsTurn side before after c (Ran c s.steps s.end)
