@@ -2,15 +2,21 @@
 #![tactic(auto)]
 
 mod arithmetic;
+mod formed_bundle;
+mod formed_image;
+mod formed_program;
+mod formed_setting;
 mod image;
 mod instr;
 mod list;
 mod name;
+mod named;
+mod numbers;
 mod program;
 
 pub use arithmetic::{AluOp, DivOp, Test, alu, divide, test_holds};
 pub use image::{Code, Image, PReg, Range, Word};
 pub use instr::{Instr, Next, Reads, reads_of, successors, switches, writes};
 pub use list::{List, NoMemory};
-pub use name::Name;
+pub use name::{Name, is_name};
 pub use program::{Bundle, Channel, Label, Line, PortUse, Program, Setting, VReg};

@@ -65,7 +65,8 @@ impl PartialEq for Name {
     }
 }
 
-fn is_name(bytes: &[u8]) -> bool
+/// Whether the bytes are a name: 1 to 32 of them, first a letter or `_`, then letters, digits, `_` or `.`.
+pub fn is_name(bytes: &[u8]) -> bool
     ensures { result ≡ name_test bytes.now }
 {
     match bytes {
