@@ -1,27 +1,18 @@
 -- One segment of the engine is one event of the machine run.
-use Rattle.std.proofs.Common.{◌≡◌, ◌≢◌, ℕ, zero, suc, ◌+◌, ◌-◌, ◌<◌, ◌≤◌, List, [], ◌∷◌, length, Option, Some, None, Bool, true, false, refl, sym, ap, ◌∙◌, subst, inl, inr, get_or, arith}
-use Rattle.std.specs.Prelude.{slice_get, slice_set, nat_lt, ◌==◌, ◌||◌, if◌then◌else◌}
-use Rattle.std.specs.List.{list_any}
-use Rattle.std.proofs.lemmas.Bool.{eqb-true, eqb-false, ltb-true, cases_eq}
+use Rattle.std.proofs.Common.{◌≡◌, ℕ, ◌<◌, ◌≤◌, List, length, Option, Some, None, Bool, true, false, refl, sym, ap, ◌∙◌, subst, inl, inr, arith}
+use Rattle.std.specs.Prelude.{slice_get, slice_set, ◌==◌, if◌then◌else◌}
+use Rattle.std.proofs.lemmas.Bool.{eqb-true, eqb-false, cases_eq}
 use Rattle.std.proofs.lemmas.Option.{same_Some, slice_get_within}
 use Rattle.std.proofs.lemmas.List.{length-set}
 use Rattle.micro_isa.specs.declared.image.PReg.{PReg}
 use Rattle.micro_isa.specs.declared.image.Word.{Word}
 use Rattle.micro_isa.specs.declared.image.Code.{Code}
 use Rattle.micro_isa.specs.declared.image.Image.{Image}
-use Rattle.world.specs.declared.event.Phase.{Phase}
-use Rattle.world.specs.declared.event.Phase.TheVariants.{Ready, Due, Receiving, Sending, Halted, Trapped}
 use Rattle.world.specs.declared.event.SegmentEnd.{SegmentEnd}
 use Rattle.world.specs.declared.event.Output.{Output}
 use Rattle.world.specs.declared.event.Event.TheVariants.{Run}
 use Rattle.world.specs.declared.event.Seen.TheVariants.{Ran}
-use Rattle.world.specs.declared.event.Illegal.TheVariants as illegal
-use Rattle.world.specs.declared.channel.ChannelKind.{ChannelKind}
-use Rattle.world.specs.declared.channel.ChannelKind.TheVariants.{Inner, Incoming, Outgoing}
-use Rattle.world.specs.Channels.{ChannelState, with_word, without_head}
-use Rattle.world.specs.WorldState.{WorldState, sent_by, sent_at, changed_at, is_open_input, has_open_input}
-use Rattle.meanings.specs.declared.Stop.{Stop}
-use Rattle.meanings.specs.Core.{Core, is_cut, Completed, complete_phase, completion, completed, finished, end_after, phase_after, steps_left, is_runnable, illegal_of}
+use Rattle.meanings.specs.Core.{Core, Completed, completion, completed, finished, end_after, steps_left, illegal_of}
 use Rattle.meanings.specs.Events.{after_stretch, happens}
 use Rattle.meanings.specs.Machine.{Machine, received_word, machine_back, words_of, words_in, advance, machine_side}
 use Rattle.meanings.proofs.Waiting.{get-set_same, get-set_other}

@@ -1,21 +1,19 @@
 -- An interpreter is sound at its opening.
-use Rattle.std.proofs.Common.{◌≡◌, ℕ, zero, suc, ◌+◌, ◌<◌, ◌≤◌, List, [], ◌∷◌, length, Option, Some, None, Bool, true, false, refl, sym, ap, ◌∙◌, subst, arith, replicate, map}
+use Rattle.std.proofs.Common.{◌≡◌, ℕ, zero, suc, ◌<◌, ◌≤◌, List, [], ◌∷◌, length, Some, None, Bool, true, false, refl, sym, ap, ◌∙◌, subst, arith, replicate, map}
 use Rattle.std.specs.Prelude.{slice_get, slice_index, ◌&&◌, nat_lt}
-use Rattle.std.specs.List.{list_all}
 use Rattle.std.proofs.lemmas.Bool.{ltb-true}
 use Rattle.std.proofs.lemmas.List.{length-replicate, length-map}
 use Rattle.micro_isa.specs.declared.instr.Instr.{Instr}
 use Rattle.micro_isa.specs.declared.instr.Instr.TheVariants.{Li, Mov, Alu, Div, Ctx, Jmp, Branch, Load, Store, Yield, Recv, Send, Halt}
 use Rattle.micro_isa.specs.declared.program.VReg.{VReg}
-use Rattle.micro_isa.specs.declared.program.Line.{Line}
 use Rattle.micro_isa.specs.declared.program.Program.{Program}
 use Rattle.micro_isa.specs.declared.program.Bundle.{Bundle}
-use Rattle.micro_isa.specs.Formed.{all_below, option_below, registers_in, target_of, names_below, IsFormedProgram, IsFormedBundle}
+use Rattle.micro_isa.specs.Formed.{all_below, option_below, target_of, names_below, IsFormedProgram, IsFormedBundle}
 use Rattle.world.specs.declared.event.Phase.TheVariants.{Ready}
-use Rattle.meanings.specs.Source.{SourceContext, source_open}
+use Rattle.meanings.specs.Source.{source_open}
 use Rattle.meanings.specs.Core.{Core, opening_core}
 use Rattle.source_core.specs.declared.context.ContextState.{ContextState}
-use Rattle.source_core.specs.Steps.{IsNamed, AllNamed, values_of, context_at}
+use Rattle.source_core.specs.Steps.{IsNamed, AllNamed}
 use Rattle.source_core.specs.SourceState.{context_of, start_of, moment_of, IsContext, IsSound}
 
 first : (a b : Bool) → (a && b) ≡ true → a ≡ true

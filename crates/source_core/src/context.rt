@@ -1,7 +1,6 @@
 //! One context: what it keeps between its segments, and what it does in one.
 
 ghost use Rattle.std.specs.Prelude.{◌≡◌, ◌<◌, ◌≤◌, ℕ, false, length, IfSome, Option};
-
 ghost use Rattle.meanings.specs.Core.{is_cut};
 ghost use Rattle.meanings.specs.Source.{received, stretch};
 ghost use Rattle.source_core.specs.Steps.{context_at};

@@ -1,7 +1,6 @@
 //! The instructions of one context, up to its next stop.
 
 ghost use Rattle.std.specs.Prelude.{◌≡◌, ◌+◌, ◌<◌, ◌≤◌, length, slice_get, false, IfSome};
-
 ghost use Rattle.meanings.specs.Core.{is_cut};
 ghost use Rattle.meanings.specs.Effects.{effect_of, divided};
 ghost use Rattle.meanings.specs.Source.{stretch};

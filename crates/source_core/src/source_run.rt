@@ -179,7 +179,13 @@ fn segment_of(
     let done = core.complete(context);
     let left = core.steps_left();
     let code = code_of(bundle, context);
-    let gone = go_on(context, code, &mut contexts[context as usize], done.received, left);
+    let gone = go_on(
+        context,
+        code,
+        &mut contexts[context as usize],
+        done.received,
+        left,
+    );
     let end = core.finish(context, gone.steps, gone.why);
     Segment {
         steps: gone.steps,

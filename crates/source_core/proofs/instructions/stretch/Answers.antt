@@ -14,8 +14,8 @@ steps-preserved c =
       c.in-Onward.ensures.within.1,
       c.write_to.ensures.size ∙ i.2,
       ap (λ v. later (s.steps + 1) (stretch a.context a.code.now (a.left - (s.steps + 1)) (record { place = c.in-Onward.next; values = v; pending = a.pending }))) (ap values_of c.write_to.ensures.written ∙ all_put s.registers c.in-Onward.to_write c.in-Onward.ensures.within.0)
-      ∙ one_on a.context a.code.now s.steps a.left (context_at s.at s.registers a.pending) c.in-Some.line c.in-Onward.to_write c.in-Onward.next (omega arith) (sym c.in-Some.ensures) c.in-Onward.ensures.table
-      ∙ i.3,
+          ∙ one_on a.context a.code.now s.steps a.left (context_at s.at s.registers a.pending) c.in-Some.line c.in-Onward.to_write c.in-Onward.next (omega arith) (sym c.in-Some.ensures) c.in-Onward.ensures.table
+          ∙ i.3,
     )
 
 pub returns-in-Ends-clause-ended : goal.returns-in-Ends-clause-ended
