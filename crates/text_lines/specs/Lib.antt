@@ -1,0 +1,4 @@
+pub mod Cutting
+pub mod Faults
+pub mod Numbers
+pub mod Tables

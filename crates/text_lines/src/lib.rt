@@ -1,0 +1,13 @@
+//! Cuts a text into numbered lines of words, reads numbers, keeps tables of names, and names the faults
+//! that a bundle's text can have.
+#![tactic(auto)]
+
+mod cutting;
+mod fault;
+mod number;
+mod table;
+
+pub use cutting::{Row, rows_of};
+pub use fault::{BundleFault, BundleKind, kind_text};
+pub use number::word_number;
+pub use table::{declare, find, knows, names_of, place_of};
