@@ -1,3 +1,7 @@
+pub mod Causing
 pub mod Digits
+pub mod First
 pub mod Maps
+pub mod Named
+pub mod Rows
 pub mod Steps

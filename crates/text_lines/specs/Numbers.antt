@@ -1,5 +1,5 @@
 -- The numbers that words spell.
-use Rattle.std.specs.Prelude.{ℕ, ◌^◌, ◌==◌, ◌&&◌, nat_le, nat_lt, Bool, true, false, List, [], ◌∷◌, Option, Some, None, if◌then◌else◌, length}
+use Rattle.std.specs.Prelude.{ℕ, ◌^◌, ◌==◌, ◌&&◌, nat_le, nat_lt, Bool, true, false, List, [], ◌∷◌, Option, Some, None, if◌then◌else◌, length, unwrap_or, is_none}
 use Rattle.std.specs.List.{list_all}
 use Rattle.std.specs.Char.{is_ascii_hexdigit}
 use Rattle.std.specs.Str.Parse.{digits_value}
@@ -23,3 +23,11 @@ hex_or word (Some digits) = hex_number digits
 -- decimal digits, or hexadecimal ones after `0x`
 abbrev pub word_number : List ℕ → Option ℕ
 word_number word = hex_or word (after_0x word)
+
+-- the number that a word spells, or 0
+abbrev pub number_or : List ℕ → ℕ
+number_or word = unwrap_or (word_number word) 0
+
+-- a word that spells no number
+abbrev pub is_no_number : List ℕ → Bool
+is_no_number word = is_none (word_number word)

@@ -1,6 +1,6 @@
 ghost use Rattle.std.specs.Prelude.{◌≡◌, ◌<◌, true, false, IfSome, IfNone, Some, None, if◌then◌else◌, option_map};
 ghost use Rattle.std.specs.Char.{is_ascii_hexdigit, digit_value};
-ghost use Rattle.text_lines.specs.Numbers.{hex_number, after_0x, word_number};
+ghost use Rattle.text_lines.specs.Numbers.{hex_number, after_0x, word_number, number_or};
 
 use micro_kit::read_number;
 
@@ -53,4 +53,11 @@ pub fn word_number(word: &[u8]) -> Option<u32>
         None => read_number(word),
         Some(digits) => hex_number(digits),
     }
+}
+
+/// The number that a word spells, and 0 where it spells none.
+pub fn number_or(word: &[u8]) -> u32
+    ensures { result ≡ number_or word.now }
+{
+    word_number(word).unwrap_or(0)
 }
