@@ -18,6 +18,9 @@ pub record Channels : Type 0 where
   pub names : Words
   pub kinds : List Channel
 
+abbrev pub channels : Words → List Channel → Channels
+channels names kinds = record { names = names; kinds = kinds }
+
 -- a label, register or channel whose name is none
 abbrev pub is_misnamed : Body → Bool
 is_misnamed b =

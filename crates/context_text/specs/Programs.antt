@@ -1,5 +1,5 @@
 -- The program that a context's lines say, where they have no fault.
-use Rattle.std.specs.Prelude.{ℕ, ◌++◌, List, [], ◌∷◌, map, slice_index}
+use Rattle.std.specs.Prelude.{ℕ, ◌+◌, ◌++◌, List, [], ◌∷◌, Option, Some, None, slice_index}
 use Rattle.micro_isa.specs.declared.instr.Instr.{Instr}
 use Rattle.micro_isa.specs.declared.instr.Instr.TheVariants as instr
 use Rattle.micro_isa.specs.declared.program.VReg.{VReg}
@@ -21,25 +21,26 @@ abbrev pub target : Said → List ℕ → ℕ
 target all label = slice_index all.targets (place_of all.labels label)
 
 -- the instruction of a line, where it has one, over registers, names of channels and what all lines say
-abbrev pub instr_in : Words → Words → Said → Form → List (Instr VReg)
-instr_in rs chs all (Li to n) = instr.Li (register rs to) (number_or n) ∷ []
-instr_in rs chs all (Mov to from) = instr.Mov (register rs to) (register rs from) ∷ []
-instr_in rs chs all (Alu op to a b) = instr.Alu op (register rs to) (register rs a) (register rs b) ∷ []
-instr_in rs chs all (Div op to a b) = instr.Div op (register rs to) (register rs a) (register rs b) ∷ []
-instr_in rs chs all (Ctx to) = instr.Ctx (register rs to) ∷ []
-instr_in rs chs all (Jmp label) = instr.Jmp (target all label) ∷ []
-instr_in rs chs all (Branch holds a b label) = instr.Branch holds (register rs a) (register rs b) (target all label) ∷ []
-instr_in rs chs all (Load to address) = instr.Load (register rs to) (register rs address) ∷ []
-instr_in rs chs all (Store address from) = instr.Store (register rs address) (register rs from) ∷ []
-instr_in rs chs all Yield = instr.Yield ∷ []
-instr_in rs chs all (Recv to channel) = instr.Recv (register rs to) (place_of chs channel) ∷ []
-instr_in rs chs all (Send channel from) = instr.Send (place_of chs channel) (register rs from) ∷ []
-instr_in rs chs all Halt = instr.Halt ∷ []
-instr_in rs chs all _ = []
+abbrev pub instr_in : Words → Words → Said → Form → Option (Instr VReg)
+instr_in rs chs all (Li to n) = Some (instr.Li (register rs to) (number_or n))
+instr_in rs chs all (Mov to from) = Some (instr.Mov (register rs to) (register rs from))
+instr_in rs chs all (Alu op to a b) = Some (instr.Alu op (register rs to) (register rs a) (register rs b))
+instr_in rs chs all (Div op to a b) = Some (instr.Div op (register rs to) (register rs a) (register rs b))
+instr_in rs chs all (Ctx to) = Some (instr.Ctx (register rs to))
+instr_in rs chs all (Jmp label) = Some (instr.Jmp (target all label))
+instr_in rs chs all (Branch holds a b label) = Some (instr.Branch holds (register rs a) (register rs b) (target all label))
+instr_in rs chs all (Load to address) = Some (instr.Load (register rs to) (register rs address))
+instr_in rs chs all (Store address from) = Some (instr.Store (register rs address) (register rs from))
+instr_in rs chs all Yield = Some instr.Yield
+instr_in rs chs all (Recv to channel) = Some (instr.Recv (register rs to) (place_of chs channel))
+instr_in rs chs all (Send channel from) = Some (instr.Send (place_of chs channel) (register rs from))
+instr_in rs chs all Halt = Some instr.Halt
+instr_in rs chs all _ = None
 
--- instructions with the line that they stand on
-abbrev pub on_line : ℕ → List (Instr VReg) → List Line
-on_line n instrs = map (λ i. record { instr = i; line = n }) instrs
+-- an instruction with the line that it stands on
+abbrev pub on_line : ℕ → Option (Instr VReg) → List Line
+on_line n None = []
+on_line n (Some i) = record { instr = i; line = n } ∷ []
 
 -- the instruction of a line, after what the earlier lines say
 abbrev pub line_code : Words → Said → Said → TextLine → List Line
@@ -56,16 +57,16 @@ code_after chs all before (line ∷ lines) =
 abbrev pub code_of : Words → List TextLine → List Line
 code_of chs lines = code_after chs (said_by lines) [] lines
 
--- labels with their targets
-abbrev pub labels_of : Words → List ℕ → List Label
-labels_of (name ∷ names) (at ∷ targets) = record { name = name; target = at } ∷ labels_of names targets
-labels_of _ _ = []
+-- labels, each with the target at its place
+abbrev pub labels_from : ℕ → Words → List ℕ → List Label
+labels_from place [] targets = []
+labels_from place (name ∷ names) targets = record { name = name; target = slice_index targets place } ∷ labels_from (place + 1) names targets
 
 -- the program of a context of this name, over the names of channels
 abbrev pub program_of : Words → List ℕ → List TextLine → Program
 program_of chs name lines = record {
   name = name;
   registers = (said_by lines).registers;
-  labels = labels_of (said_by lines).labels (said_by lines).targets;
+  labels = labels_from 0 (said_by lines).labels (said_by lines).targets;
   code = code_of chs lines;
 }

@@ -3,7 +3,7 @@ ghost use Rattle.std.specs.List.{list_any, filter_map};
 ghost use Rattle.micro_isa.specs.Formed.{port_of};
 ghost use Rattle.text_lines.specs.Limits.{most_channels, largest_ring};
 ghost use Rattle.text_lines.specs.Numbers.{number_or, is_no_number};
-ghost use Rattle.text_lines.specs.Tables.{words_seen, knows, place_of, misnamed, one};
+ghost use Rattle.text_lines.specs.Tables.{words_seen, place_of, one};
 ghost use Rattle.header_text.specs.Forms.{makes, fills, numbers_in, ring_in, port_in};
 ghost use Rattle.header_text.specs.Faults.{is_from, is_size_past, is_past_limit, is_bad_port, is_repeated, is_input, form_fault};
 ghost use Rattle.header_text.specs.Views.{seen_form, seen_header};
@@ -11,20 +11,11 @@ ghost use Rattle.header_text.specs.Views.{seen_form, seen_header};
 use crate::form::{HeaderForm, fills, makes};
 use crate::header::Header;
 use indexmap::IndexSet;
-use micro_isa::{Channel, is_name};
+use micro_isa::Channel;
 use text_lines::{
     BundleKind, LARGEST_FILE, LARGEST_MEMORY, LARGEST_RING, MOST_CHANNELS, MOST_INITIAL_WORDS, PORTS,
-    knows, number_or, place_of, word_number,
+    has_name, is_misnamed, is_stray, number_or, place_of, word_number,
 };
-
-fn is_misnamed(name: Option<&[u8]>) -> bool
-    ensures { result ≡ misnamed (one (option_map (λ n. n.now) name.entry)) }
-{
-    match name {
-        Some(name) => !is_name(name),
-        None => false,
-    }
-}
 
 fn is_no_number(word: &[u8]) -> bool
     ensures { result ≡ is_no_number word.now }
@@ -154,15 +145,6 @@ fn has_bad_port(channels: &[Channel], form: HeaderForm) -> bool
     }
 }
 
-fn has_name<'a>(names: &IndexSet<&'a [u8]>, name: Option<&'a [u8]>) -> bool
-    ensures { result ≡ list_any (knows (words_seen names.now.keys)) (one (option_map (λ n. n.now) name.entry)) }
-{
-    match name {
-        Some(name) => knows(names, name),
-        None => false,
-    }
-}
-
 fn is_repeated<'a>(header: &Header<'a>, form: HeaderForm<'a, '_>) -> bool
     ensures { result ≡ is_repeated (seen_header header.now) (seen_form form.entry) }
 {
@@ -170,15 +152,6 @@ fn is_repeated<'a>(header: &Header<'a>, form: HeaderForm<'a, '_>) -> bool
         HeaderForm::File { .. } => header.file.is_some(),
         HeaderForm::Memory { .. } => header.memory.is_some(),
         _ => has_name(&header.names, makes(form)),
-    }
-}
-
-fn is_stray<'a>(names: &IndexSet<&'a [u8]>, name: Option<&'a [u8]>) -> bool
-    ensures { result ≡ list_any (λ name. not (knows (words_seen names.now.keys) name)) (one (option_map (λ n. n.now) name.entry)) }
-{
-    match name {
-        Some(name) => !knows(names, name),
-        None => false,
     }
 }
 

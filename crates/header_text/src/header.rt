@@ -38,8 +38,9 @@ fn push_numbers(words: &mut List<u32>, numbers: &[&[u8]]) -> Result<(), NoMemory
     ensures { OnOk result (words.new ≡ words.old ++ map number_or (words_seen numbers.now)) }
 {
     for number in numbers {
-        if words.push(number_or(number)).is_err() {
-            return Err(NoMemory);
+        match words.push(number_or(number)) {
+            Ok(()) => {}
+            Err(_) => return Err(NoMemory),
         }
     }
     Ok(())

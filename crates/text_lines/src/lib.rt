@@ -15,4 +15,6 @@ pub use limits::{
     MOST_INSTRUCTIONS, MOST_REGISTERS, PORTS,
 };
 pub use number::{number_or, word_number};
-pub use table::{declare, find, knows, names_of, place_of};
+pub use table::{
+    declare, find, has_name, is_misnamed, is_stray, knows, name_of, names_of, place_of,
+};
