@@ -148,9 +148,9 @@ pub fn labels_of(alloc: Global, names: &[&[u8]], targets: &[u32]) -> Result<List
     ensures { IfOk result (λ labels. labels ≡ labels_from 0 (words_seen names.now) targets.now) }
 {
     let mut labels = List::new(alloc);
-    for name in names {
+    for word in names {
         let target = target_at(targets, labels.len());
-        let name = name_of(alloc, name)?;
+        let name = name_of(alloc, word)?;
         match labels.push(Label { name, target }) {
             Ok(()) => {}
             Err(_) => return Err(NoMemory),

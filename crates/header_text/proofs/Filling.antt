@@ -4,6 +4,7 @@ use Rattle.std.specs.Prelude.{sum, slice_get, slice_set}
 use Rattle.std.specs.List.{list_all, filter_map}
 use Rattle.std.proofs.lemmas.Bool.{true≢false}
 use Rattle.std.proofs.lemmas.List.{length-append}
+use Rattle.std.proofs.lemmas.List.Sums.{sum_by-cons}
 use Rattle.micro_isa.specs.declared.program.Channel.{Channel}
 use Rattle.micro_isa.specs.declared.program.Channel.TheVariants as channel
 use Rattle.micro_isa.specs.Formed.{has_formed_ring, port_of, initial_count}
@@ -64,11 +65,14 @@ filled_rings (c ∷ cs) (suc at) more = later (slice_get cs at) (filled_rings cs
     later None e = refl
     later (Some x) e = ap (λ b. has_formed_ring c && b) e
 
+pub sum_cons : (x : ℕ) (xs : List ℕ) → sum (x ∷ xs) ≡ x + sum xs
+sum_cons x xs = sum_by-cons (λ x. x) x xs
+
 pub filled_count : (chs : List Channel) (at : ℕ) (more : List ℕ) → is_input (slice_get chs at) ≡ true → sum (map initial_count (filled_at chs at more)) ≡ sum (map initial_count chs) + length more
 filled_count [] at more is = absurd (true≢false (sym is))
-filled_count (c ∷ cs) zero more is = omega (arith, more_words more c is)
+filled_count (c ∷ cs) zero more is = omega (arith, more_words more c is, sum_cons (initial_count (filled more c)) (map initial_count cs), sum_cons (initial_count c) (map initial_count cs))
 filled_count (c ∷ cs) (suc at) more is = later (slice_get cs at) is (filled_count cs at more)
   where
     later : (o : Option Channel) → is_input o ≡ true → (is_input o ≡ true → sum (map initial_count (replaced cs at more o)) ≡ sum (map initial_count cs) + length more) → sum (map initial_count (replaced (c ∷ cs) (suc at) more o)) ≡ sum (map initial_count (c ∷ cs)) + length more
     later None is e = absurd (true≢false (sym is))
-    later (Some x) is e = omega (arith, e is)
+    later (Some x) is e = omega (arith, e is, sum_cons (initial_count c) (map initial_count (slice_set cs at (filled more x))), sum_cons (initial_count c) (map initial_count cs))

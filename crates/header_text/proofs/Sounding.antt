@@ -21,7 +21,7 @@ use Rattle.header_text.specs.Forms.{HeaderForm, Blank, File, Memory, Inner, Inpu
 use Rattle.header_text.specs.Headers.{Header, no_header, with_form, with_line, filled, filled_at, replaced, PortFits}
 use Rattle.header_text.specs.Faults.{is_from, is_past_limit, is_bad_port, is_input, form_tests, form_fault, line_fault}
 use Rattle.header_text.specs.Sound.{IsSound}
-use Rattle.header_text.proofs.Filling.{filled_length, filled_ports, filled_rings, filled_count}
+use Rattle.header_text.proofs.Filling.{filled_length, filled_ports, filled_rings, filled_count, sum_cons}
 
 pub sound_none : IsSound no_header
 sound_none = record {
@@ -52,8 +52,8 @@ record IsAdded (h : Header) (name : List ℕ) (c : Channel) : Type 0 where
   port : (p : ℕ) → port_of c ≡ Some p → (p < 16) × (list_any (nat_eq p) (filter_map port_of h.channels) ≡ false)
 
 sum_snoc : (xs : List ℕ) (x : ℕ) → sum (xs ++ x ∷ []) ≡ sum xs + x
-sum_snoc [] x = omega arith
-sum_snoc (y ∷ ys) x = omega (arith, sum_snoc ys x)
+sum_snoc [] x = omega (arith, sum_cons x [])
+sum_snoc (y ∷ ys) x = omega (arith, sum_snoc ys x, sum_cons y (ys ++ x ∷ []), sum_cons y ys)
 
 no_port : (c : Channel) → port_of c ≡ None → filter_map port_of (c ∷ []) ≡ []
 no_port c e = rw e refl
@@ -142,7 +142,7 @@ pub sound_form : (h : Header) (fair : Bool) (form : HeaderForm) → IsSound h �
 sound_form h fair (File size) s e =
     let t = none_met (form_tests h fair (File size)) e in
     let range = and_parts (nat_le 1 (number_or size)) (nat_le (number_or size) 128) (size_part (is_from 1 128 size) t.1.1.1.1.1.0) in
-    let is = (leb-true 1 (number_or size) range.0, leb-true (number_or size) 128 range.1) in
+    let is : (1 ≤ number_or size) × (number_or size ≤ 128) = (leb-true 1 (number_or size) range.0, leb-true (number_or size) 128 range.1) in
     record {
       file = λ n same. subst (λ n. (1 ≤ n) × (n ≤ 128)) (same_Some (number_or size) n same) is;
       memory = s.memory; few = s.few; same = s.same; named = s.named; distinct = s.distinct;

@@ -9,7 +9,7 @@ use Rattle.header_text.proofs.reader.read_header.Goals as goal
 
 pub loop-row-init : goal.loop-row-init
 loop-row-init c =
-    let e = c.no_header.ensures in (
+    let e = c.no_header-header.ensures in (
       ap (λ h. faults_after h c.args.rows.now) e,
       ap (λ h. fold with_line h c.args.rows.now) e,
       subst IsSound (sym e) sound_none,
@@ -18,7 +18,7 @@ loop-row-init c =
 pub loop-row-preserved : goal.loop-row-preserved
 loop-row-preserved c =
     let i = c.loop-row.invariant in
-    let r = c.in-Ok-read_line.ensures in
+    let r = c.in-Ok.ensures in
     let rows = c.args.rows.now in
     let h = seen_header c.loop-row.header in
     let x = c.row-item.result in
