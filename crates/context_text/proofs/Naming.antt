@@ -1,19 +1,17 @@
 -- Labels and registers of lines without faults are names.
-use Rattle.std.proofs.Common.{◌≡◌, ◌||◌, ◌++◌, Bool, true, false, List, [], ◌∷◌, Option, Some, None, length, refl, sym, ap, ◌∙◌, subst, append-nil, append_assoc, ℕ}
+use Rattle.std.proofs.Common.{◌≡◌, ◌||◌, ◌++◌, Bool, true, false, List, [], ◌∷◌, Option, Some, None, length, refl, sym, ap, ◌∙◌, subst, append-nil, append_assoc, ◌≤◌, nat_lt}
 use Rattle.std.specs.List.{list_all}
-use Rattle.std.proofs.lemmas.Bool.{or_parts}
+use Rattle.std.proofs.lemmas.Bool.{or_parts, ltb-false}
 use Rattle.micro_isa.specs.Names.{name_test}
-use Rattle.text_lines.specs.declared.fault.BundleKind.{BundleKind}
 use Rattle.text_lines.specs.Cutting.{TextLine}
-use Rattle.text_lines.specs.Faults.{At, at_or}
 use Rattle.text_lines.specs.Tables.{knows, misnamed, one}
 use Rattle.std.specs.List.{list_any}
-use Rattle.text_lines.proofs.First.{none_met}
+use Rattle.text_lines.proofs.First.{none_met, none_at}
 use Rattle.text_lines.proofs.Known.{named_fold}
 use Rattle.text_lines.proofs.Rows.{fold-snoc}
 use Rattle.context_text.specs.Forms.{Body, registers_in, goes_to, receives_from, sends_to}
 use Rattle.context_text.specs.Said.{Said, nothing, with_body, with_line, line_body, said_by}
-use Rattle.context_text.specs.Faults.{Channels, is_misnamed, body_tests, line_fault, faults_after, lines_fault}
+use Rattle.context_text.specs.Faults.{Channels, is_misnamed, body_tests, body_fault, line_fault, faults_after, lines_fault}
 
 pub record IsNamed (s : Said) : Type 0 where
   pub labels : list_all name_test s.labels ≡ true
@@ -34,10 +32,6 @@ named_line chs earlier all line n e =
     let t = none_met (body_tests chs (list_any (knows earlier.labels) (one (line_body line).label)) (with_line earlier line) all line.fair (line_body line)) e in
     named_body earlier (line_body line) n t.1.1.1.0
 
-pub none_at : (n : ℕ) (k : Option BundleKind) (later : Option At) → at_or n k later ≡ None → (k ≡ None) × (later ≡ None)
-none_at n None later e = (refl, e)
-none_at n (Some k) later e = absurd (cc)
-
 pub said_snoc : (before : List TextLine) (line : TextLine) → said_by (before ++ line ∷ []) ≡ with_line (said_by before) line
 said_snoc before line = fold-snoc with_line nothing before line
 
@@ -50,3 +44,9 @@ named_after chs all before (line ∷ lines) n e =
 
 pub named : (chs : Channels) (lines : List TextLine) → lines_fault chs lines ≡ None → IsNamed (said_by lines)
 named chs lines e = named_after chs (said_by lines) [] lines (record { labels = refl; registers = refl }) e
+
+-- a line without a fault has no register too many
+pub few_registers : (chs : Channels) (twice : Bool) (now all : Said) (fair : Bool) (b : Body) → body_fault chs twice now all fair b ≡ None → length now.registers ≤ 128
+few_registers chs twice now all fair b e =
+    let t = none_met (body_tests chs twice now all fair b) e in
+    ltb-false 128 (length now.registers) (or_parts (nat_lt 128 (length now.registers)) (nat_lt 2048 now.done) t.1.1.1.1.1.0).0

@@ -15,11 +15,11 @@ use Rattle.micro_isa.specs.Formed.{is_distinct, all_below, has_formed_ring, port
 use Rattle.text_lines.specs.Cutting.{TextLine}
 use Rattle.text_lines.specs.Numbers.{number_or}
 use Rattle.text_lines.specs.Tables.{knows, place_of, declare, misnamed, one}
-use Rattle.text_lines.proofs.First.{none_met}
+use Rattle.text_lines.proofs.First.{none_met, none_at}
 use Rattle.text_lines.proofs.Known.{distinct_snoc, distinct_declare, named_declare, declare_new, other_number, named_one}
 use Rattle.header_text.specs.Forms.{HeaderForm, Blank, File, Memory, Inner, Input, PortInput, Output, PortOutput, Initial, Miscounted, Unknown, header_form, makes, fills, numbers_in, ring_in, port_in}
-use Rattle.header_text.specs.Headers.{Header, no_header, with_form, with_line, filled, filled_at, replaced, PortFits}
-use Rattle.header_text.specs.Faults.{is_from, is_past_limit, is_bad_port, is_input, form_tests, form_fault, line_fault}
+use Rattle.header_text.specs.Headers.{Header, no_header, header_of, with_form, with_line, filled, filled_at, replaced, PortFits}
+use Rattle.header_text.specs.Faults.{is_from, is_past_limit, is_bad_port, is_input, form_tests, form_fault, line_fault, faults_after, header_fault}
 use Rattle.header_text.specs.Sound.{IsSound}
 use Rattle.header_text.proofs.Filling.{filled_length, filled_ports, filled_rings, filled_count, sum_cons}
 
@@ -232,3 +232,13 @@ sound_form h fair Unknown s e = s
 
 pub sound_line : (h : Header) (line : TextLine) → IsSound h → line_fault h line ≡ None → IsSound (with_line h line)
 sound_line h line s e = sound_form h line.fair (header_form line.words) s e
+
+sound_after : (h : Header) (lines : List TextLine) → IsSound h → faults_after h lines ≡ None → IsSound (fold with_line h lines)
+sound_after h [] s e = s
+sound_after h (line ∷ lines) s e =
+    let both = none_at line.number (line_fault h line) (faults_after (with_line h line) lines) e in
+    sound_after (with_line h line) lines (sound_line h line s both.0) both.1
+
+-- what lines without a fault say
+pub sound_header : (lines : List TextLine) → header_fault lines ≡ None → IsSound (header_of lines)
+sound_header lines e = sound_after no_header lines sound_none e

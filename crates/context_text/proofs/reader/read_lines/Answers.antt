@@ -11,7 +11,7 @@ use Rattle.context_text.proofs.reader.read_lines.Goals as goal
 pub loop-row-preserved : goal.loop-row-preserved
 loop-row-preserved c =
     let i = c.loop-row.invariant in
-    let r = c.in-Ok-read_line.ensures in
+    let r = c.in-Ok.ensures in
     let rows = c.args.rows.now in
     let names = words_seen c.args.names.now.keys in
     let chs = channels names c.args.kinds.now in
