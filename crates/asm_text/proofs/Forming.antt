@@ -141,11 +141,17 @@ context_there h (line ∷ lines) has e =
       | false ↦ λ has f. context_there h lines has f
     ] in go (starts line.words) has e
 
+not_none : (at : At) → Some at ≡ None → false ≡ true
+not_none at e = absurd (cc)
+
 end_there : (lines : List TextLine) → end_fault lines ≡ None → list_any (λ l. starts l.words) lines ≡ true
 end_there lines e =
-    let go : (b : Bool) → (if b then None else Some (record { line = length lines + 1; kind = Missing })) ≡ None → b ≡ true = λ b. elim b as (λ b. (if b then None else Some (record { line = length lines + 1; kind = Missing })) ≡ None → b ≡ true) [
+    let none : Option At = None in
+    let missing : Option At = Some (record { line = length lines + 1; kind = Missing }) in
+    let Goal : Bool → Type 0 = λ b. (if b then none else missing) ≡ none → b ≡ true in
+    let go : (b : Bool) → Goal b = λ b. elim b as Goal [
       | true ↦ λ f. refl
-      | false ↦ λ f. absurd (cc)
+      | false ↦ λ f. not_none (record { line = length lines + 1; kind = Missing }) f
     ] in go (list_any (λ l. starts l.words) lines) e
 
 file_formed : (h : Header) (o : Option ℕ) → h.file ≡ o → IsSound h → is_none o ≡ false → (1 ≤ unwrap_or o 0) × (unwrap_or o 0 ≤ 128)

@@ -132,10 +132,11 @@ range_snoc a (suc n) k e = ap (λ l. a ∷ l) (range_snoc (a + 1) n k (omega ari
 text_places : (text : List ℕ) → places (verdicts (text_lines text)) ≡ range_with_len 1 (length (text_lines text) + 1)
 text_places text =
     let lines = text_lines text in
+    let more : suc (length lines) ≡ length lines + 1 = omega arith in
     verdict_places lines
     ∙ ap (λ ns. ns ++ (length lines + 1) ∷ []) (numbered_range 1 (lines_from [] text))
     ∙ range_snoc 1 (length lines) (length lines + 1) (omega arith)
-    ∙ ap (range_with_len 1) (omega arith)
+    ∙ ap (range_with_len 1) more
 
 -- the first fault, cut out of the verdicts
 

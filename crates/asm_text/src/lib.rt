@@ -19,5 +19,3 @@ mod reader;
 
 pub use reader::read_bundle;
 
-#[cfg(test)]
-mod tests;
