@@ -1,0 +1,11 @@
+//! The canonical text of a bundle.
+#![tactic(auto)]
+
+mod bundle;
+mod context;
+mod header;
+mod instruction;
+mod names;
+mod row;
+
+pub use bundle::print_bundle;
