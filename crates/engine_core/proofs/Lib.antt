@@ -1,3 +1,6 @@
 pub mod StepLemmas
 pub mod Opening
+pub mod Confined
 pub mod SegmentLemmas
+pub mod MayRun
+pub mod Elsewhere

@@ -8,6 +8,7 @@ use Rattle.micro_isa.specs.declared.image.PReg.{PReg}
 use Rattle.micro_isa.specs.declared.image.Word.{Word}
 use Rattle.micro_isa.specs.declared.image.Code.{Code}
 use Rattle.micro_isa.specs.declared.image.Image.{Image}
+use Rattle.micro_isa.specs.Formed.{writes_within}
 use Rattle.world.specs.declared.event.SegmentEnd.{SegmentEnd}
 use Rattle.world.specs.declared.event.Output.{Output}
 use Rattle.world.specs.declared.event.Event.TheVariants.{Run}
@@ -43,17 +44,19 @@ segment_is image core core1 core2 file file1 file2 ks c left k words received se
     ∙ (λ i. (record { core = sym fin2 i; state = record { file = file2; contexts = λ d. kept_after ks c k' lt d (d == c) refl i } }, Ran (record { steps = ended.steps; end = sym fin_is i; sent = sent })))
 
 -- the engine stays sound where a context comes to a place within its words
-pub stays_sound : (image : Image) (core core' : Core) (ks : List ContextPlace) (c : ℕ) (k0 k : ContextPlace) → IsSound image core ks → slice_get ks c ≡ Some k0 → length core'.phases ≡ length core.phases → ((code : Code) → slice_get image.contexts c ≡ Some code → k.at ≤ length code.words) → IsSound image core' (slice_set ks c k)
-stays_sound image core core' ks c k0 k s old same placed = record {
-  few = subst (λ n. n ≤ 8) (sym (length-set ks c k)) s.few;
+pub stays_sound : (image : Image) (core core' : Core) (ks : List ContextPlace) (c : ℕ) (k0 k : ContextPlace) → IsSound image core ks → slice_get ks c ≡ Some k0 → length core'.phases ≡ length core.phases → ((code : Code) → slice_get image.contexts c ≡ Some code → k.at ≤ length code.words) → ((code : Code) → slice_get image.contexts c ≡ Some code → writes_within code.private image.shared k.pending ≡ true) → IsSound image core' (slice_set ks c k)
+stays_sound image core core' ks c k0 k s old same placed awaits = record {
+  formed = s.formed;
   as_many = length-set ks c k ∙ s.as_many ∙ sym same;
   as_many_words = s.as_many_words ∙ sym same;
   each = λ d code kd is_code is_k. elim (cases_eq d c) [
     | inl e ↦
         let here : slice_get image.contexts c ≡ Some code = ap (λ n. slice_get image.contexts n) (sym e) ∙ is_code in
-        let was = s.each c code k0 here old in
         let kd_is : k ≡ kd = same_Some k kd (sym (get-set_same ks c k (slice_get_within ks c k0 old)) ∙ ap (λ n. slice_get (slice_set ks c k) n) (sym e) ∙ is_k) in
-        record { few = was.few; targets = was.targets; within = subst (λ n. n.at ≤ length code.words) kd_is (placed code here) }
+        record {
+          within = subst (λ n. n.at ≤ length code.words) kd_is (placed code here);
+          pending = subst (λ n. writes_within code.private image.shared n.pending ≡ true) kd_is (awaits code here);
+        }
     | inr ne ↦ s.each d code kd is_code (sym (get-set_other ks c d k ne) ∙ is_k)
   ];
 }

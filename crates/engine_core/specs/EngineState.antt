@@ -1,12 +1,12 @@
 -- The engine's state, and the moment of a run that it stands for.
-use Rattle.std.specs.Prelude.{◌≡◌, ◌≤◌, ◌<◌, ℕ, List, length, Option, Some, None, slice_get}
+use Rattle.std.specs.Prelude.{◌≡◌, ◌≤◌, ℕ, List, length, Bool, true, false, ◌||◌, Option, Some, None, slice_get}
+use Rattle.micro_isa.specs.Formed.{lies_in, writes_within, IsFormedImage}
 use Rattle.micro_isa.specs.declared.image.Code.{Code}
 use Rattle.micro_isa.specs.declared.image.Image.{Image}
 use Rattle.meanings.specs.Core.{Core}
 use Rattle.meanings.specs.Events.{Moment}
 use Rattle.meanings.specs.Machine.{Kept, Machine}
 use Rattle.engine_core.specs.declared.place.ContextPlace.{ContextPlace}
-use Rattle.engine_core.specs.Steps.{AllTargets}
 
 -- the image that is run, the core of the run, the register file, and where the contexts stand
 pub record EngineState : Type 0 where
@@ -26,14 +26,27 @@ moment_of e = record {
   state = record { file = e.file; contexts = λ c. kept_of (slice_get e.contexts c) };
 }
 
--- a context's words are few, their targets are words, and it stands at one of them
-pub record IsContext (code : Code) (k : ContextPlace) : Type 0 where
-  pub few : length code.words < 4294967295
-  pub targets : AllTargets code.words
-  pub within : k.at ≤ length code.words
+-- a register lies in the private range of this code
+abbrev pub is_private : Option Code → ℕ → Bool
+is_private None q = false
+is_private (Some code) q = lies_in code.private q
 
+-- the registers that a context may write: those of its private range, and the shared ones
+abbrev pub may_write : Image → ℕ → ℕ → Bool
+may_write image c q = is_private (slice_get image.contexts c) q || lies_in image.shared q
+
+-- every register that this context may not write is as it was
+abbrev pub LeavesOthers : Image → ℕ → List ℕ → List ℕ → Type 0
+LeavesOthers image c before after = (q : ℕ) → may_write image c q ≡ false → slice_get after q ≡ slice_get before q
+
+-- a context stands at one of its words, or just behind the last, and its completion goes to a register that it may write
+pub record IsContext (image : Image) (code : Code) (k : ContextPlace) : Type 0 where
+  pub within : k.at ≤ length code.words
+  pub pending : writes_within code.private image.shared k.pending ≡ true
+
+-- the image is formed, and there is a place and a phase for each of its contexts
 pub record IsSound (image : Image) (core : Core) (contexts : List ContextPlace) : Type 0 where
-  pub few : length contexts ≤ 8
+  pub formed : IsFormedImage image
   pub as_many : length contexts ≡ length core.phases
   pub as_many_words : length image.contexts ≡ length core.phases
-  pub each : (c : ℕ) (code : Code) (k : ContextPlace) → slice_get image.contexts c ≡ Some code → slice_get contexts c ≡ Some k → IsContext code k
+  pub each : (c : ℕ) (code : Code) (k : ContextPlace) → slice_get image.contexts c ≡ Some code → slice_get contexts c ≡ Some k → IsContext image code k

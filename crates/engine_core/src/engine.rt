@@ -6,7 +6,7 @@ ghost use Rattle.world.specs.declared.event.Seen.TheVariants.{Ran as RanOf, Fed 
 ghost use Rattle.meanings.specs.Core.{illegal_of, shown_core, steps_left};
 ghost use Rattle.meanings.specs.Events.{happens};
 ghost use Rattle.meanings.specs.Machine.{Machine, machine_side, machine_open, received_word, words_of};
-ghost use Rattle.engine_core.specs.EngineState.{moment_of, IsSound};
+ghost use Rattle.engine_core.specs.EngineState.{moment_of, IsSound, LeavesOthers};
 ghost use Rattle.run_core.specs.Segments.{GoesOn};
 
 use crate::place::ContextPlace;
@@ -140,6 +140,7 @@ impl Interpreter for Engine {
         ensures image { self.new.image ≡ self.old.image }
         ensures happens { happens (machine_side self.old.image) (moment_of self.old) (RunOf context) ≡ (moment_of self.new, RanOf result) }
         ensures goes_on { GoesOn self.old.core self.new.core }
+        ensures elsewhere { LeavesOthers self.old.image context self.old.file self.new.file }
     {
         segment_of(
             &self.image,
@@ -196,6 +197,7 @@ fn segment_of(
     requires legal { illegal_of core.old (RunOf context) ≡ None }
     ensures sound { IsSound image.now core.new contexts.new }
     ensures goes_on { GoesOn core.old core.new }
+    ensures elsewhere { LeavesOthers image.now context file.old file.new }
     ensures happens { happens (machine_side image.now) (moment_of (record { image = image.now; core = core.old; file = file.old; contexts = contexts.old })) (RunOf context)
         ≡ (moment_of (record { image = image.now; core = core.new; file = file.new; contexts = contexts.new }), RanOf result) }
 {
