@@ -1,10 +1,12 @@
 //! The words of one context, up to its next stop.
 
-ghost use Rattle.std.specs.Prelude.{◌≡◌, ◌+◌, ◌<◌, ◌≤◌, Option, length, slice_get, slice_set, false};
+ghost use Rattle.std.specs.Prelude.{◌≡◌, ◌+◌, ◌<◌, ◌≤◌, Option, Some, None, length, slice_get, slice_set, false, if◌then◌else◌};
 ghost use Rattle.micro_isa.specs.declared.image.PReg.{PReg as Register};
 ghost use Rattle.meanings.specs.Core.{is_cut};
-ghost use Rattle.meanings.specs.Effects.{effect_of, divided};
-ghost use Rattle.meanings.specs.Machine.{advance, settled, read_in, write_all};
+ghost use Rattle.meanings.specs.declared.Stop.TheVariants.{Store as StoreOf, Halt as HaltOf};
+ghost use Rattle.meanings.specs.Effects.{effect_of, effect_at, divided};
+ghost use Rattle.meanings.specs.Machine.{advance, settled, read_in, word_at, write_all};
+ghost use Rattle.engine_core.specs.declared.words.Did.TheVariants.{Onward as OnwardOf, Ends as EndsOf};
 ghost use Rattle.engine_core.specs.Steps.{effect_seen, gone_seen, AllTargets, NextWithin, TargetBelow};
 
 use meanings::Stop;
@@ -68,77 +70,58 @@ fn effect(context: u32, line: u32, instr: Instr<PReg>, file: &[u32], at: u32, si
     ensures table { effect_seen result ≡ effect_of context line instr (read_in file.now) at }
 {
     match instr {
-        Instr::Li { to, n } => Did::Onward {
-            write: Some((to, n)),
-            next: at + 1,
-        },
-        Instr::Mov { to, from } => Did::Onward {
-            write: Some((to, read(file, from))),
-            next: at + 1,
-        },
-        Instr::Alu { op, to, a, b } => Did::Onward {
-            write: Some((to, alu(op, read(file, a), read(file, b)))),
-            next: at + 1,
-        },
+        Instr::Li { to, n } => written(to, n, at),
+        Instr::Mov { to, from } => written(to, read(file, from), at),
+        Instr::Alu { op, to, a, b } => written(to, alu(op, read(file, a), read(file, b)), at),
         Instr::Div { op, to, a, b } => {
             let quotient = divide(op, read(file, a), read(file, b));
             divided(quotient, to, line, at)
         }
-        Instr::Ctx { to } => Did::Onward {
-            write: Some((to, context)),
-            next: at + 1,
-        },
+        Instr::Ctx { to } => written(to, context, at),
         Instr::Jmp { target } => Did::Onward {
             write: None,
             next: target,
         },
         Instr::Branch { test, a, b, target } => {
             let taken = test_holds(test, read(file, a), read(file, b));
-            Did::Onward {
-                write: None,
-                next: if taken { target } else { at + 1 },
-            }
+            branched(taken, target, at)
         }
-        Instr::Load { to, address } => Did::Ends {
-            why: Stop::Load {
-                address: read(file, address),
-                line,
-            },
-            pending: Some(to),
-            next: at + 1,
-        },
-        Instr::Store { address, from } => Did::Ends {
-            why: Stop::Store {
-                address: read(file, address),
-                word: read(file, from),
-                line,
-            },
-            pending: None,
-            next: at + 1,
-        },
-        Instr::Yield => Did::Ends {
-            why: Stop::Yield,
-            pending: None,
-            next: at + 1,
-        },
-        Instr::Recv { to, channel } => Did::Ends {
-            why: Stop::Recv { channel },
-            pending: Some(to),
-            next: at + 1,
-        },
-        Instr::Send { channel, from } => Did::Ends {
-            why: Stop::Send {
-                channel,
-                word: read(file, from),
-            },
-            pending: None,
-            next: at + 1,
-        },
-        Instr::Halt => Did::Ends {
-            why: Stop::Halt,
-            pending: None,
-            next: at,
-        },
+        Instr::Load { to, address } => {
+            let address = read(file, address);
+            stopped(Stop::Load { address, line }, Some(to), at)
+        }
+        Instr::Store { address, from } => {
+            stored(read(file, address), read(file, from), line, at)
+        }
+        Instr::Yield => stopped(Stop::Yield, None, at),
+        Instr::Recv { to, channel } => stopped(Stop::Recv { channel }, Some(to), at),
+        Instr::Send { channel, from } => {
+            let word = read(file, from);
+            stopped(Stop::Send { channel, word }, None, at)
+        }
+        Instr::Halt => halted(at),
+    }
+}
+
+/// A write, after which the next word comes.
+fn written(to: PReg, value: u32, at: u32) -> Did
+    requires { at < 4294967295 }
+    ensures { result ≡ OnwardOf (Some (to, value)) (at + 1) }
+{
+    Did::Onward {
+        write: Some((to, value)),
+        next: at + 1,
+    }
+}
+
+/// The target where a jump is taken, else the next word.
+fn branched(taken: bool, target: u32, at: u32) -> Did
+    requires { at < 4294967295 }
+    ensures { result ≡ OnwardOf None (if taken then target else at + 1) }
+{
+    Did::Onward {
+        write: None,
+        next: if taken { target } else { at + 1 },
     }
 }
 
@@ -148,15 +131,46 @@ fn divided(quotient: Option<u32>, to: PReg, line: u32, at: u32) -> Did
     ensures table { effect_seen result ≡ divided quotient to line at }
 {
     match quotient {
-        Some(value) => Did::Onward {
-            write: Some((to, value)),
-            next: at + 1,
-        },
+        Some(value) => written(to, value, at),
         None => Did::Ends {
             why: Stop::Divide { line },
             pending: None,
             next: at,
         },
+    }
+}
+
+/// A stop, to go on with the next word.
+fn stopped(why: Stop, pending: Option<PReg>, at: u32) -> Did
+    requires { at < 4294967295 }
+    ensures { result ≡ EndsOf why pending (at + 1) }
+{
+    Did::Ends {
+        why,
+        pending,
+        next: at + 1,
+    }
+}
+
+fn stored(address: u32, word: u32, line: u32, at: u32) -> Did
+    requires { at < 4294967295 }
+    ensures { result ≡ EndsOf (StoreOf address word line) None (at + 1) }
+{
+    let why = Stop::Store {
+        address,
+        word,
+        line,
+    };
+    stopped(why, None, at)
+}
+
+fn halted(at: u32) -> Did
+    ensures { result ≡ EndsOf HaltOf None at }
+{
+    Did::Ends {
+        why: Stop::Halt,
+        pending: None,
+        next: at,
     }
 }
 
@@ -197,6 +211,20 @@ fn word_at(words: &[Word], at: u32) -> Option<Word>
     words.get(at as usize).copied()
 }
 
+/// What the word at `at` of a context does; behind the last word it is a halt.
+fn effect_at(context: u32, words: &[Word], file: &[u32], at: u32) -> Did
+    requires few { length words.now < 4294967295 }
+    requires targets { AllTargets words.now }
+    requires within { at ≤ length words.now }
+    ensures next { NextWithin (length words.now) result }
+    ensures table { effect_seen result ≡ effect_at context (word_at words.now at) (read_in file.now) at }
+{
+    match word_at(words, at) {
+        Some(word) => effect(context, word.line, word.instr, file, at, words.len()),
+        None => halted(at),
+    }
+}
+
 /// The words from `at` on, up to the next stop, with so many steps left.
 pub(crate) fn advance(
     context: u32,
@@ -217,31 +245,16 @@ pub(crate) fn advance(
     let mut at = settle(words, file, at);
     let mut steps = 0;
     'steps: while steps < left {
-        let Some(word) = word_at(words, at) else {
-            return Ended {
-                at,
-                pending: None,
-                steps: steps + 1,
-                why: Stop::Halt,
-            };
-        };
-        match effect(context, word.line, word.instr, file, at, words.len()) {
-            Did::Onward {
-                write: to_write,
-                next,
-            } => {
-                write_to(file, to_write);
+        match effect_at(context, words, file, at) {
+            Did::Onward { write, next } => {
+                write_to(file, write);
                 at = settle(words, file, next);
                 steps += 1;
             }
-            Did::Ends {
-                why,
-                pending: awaited,
-                next,
-            } => {
+            Did::Ends { why, pending, next } => {
                 return Ended {
                     at: next,
-                    pending: awaited,
+                    pending,
                     steps: steps + 1,
                     why,
                 };
