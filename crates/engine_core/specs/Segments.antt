@@ -1,5 +1,5 @@
 -- What every segment leaves or brings on, whatever its words do.
-use Rattle.std.specs.Prelude.{◌≡◌, ℕ, ◌<◌, ◌≤◌, length, false}
+use Rattle.std.specs.Prelude.{◌≡◌, ◌<◌, ◌≤◌, length, false}
 use Rattle.world.specs.WorldState.{has_open_input}
 use Rattle.meanings.specs.Core.{Core}
 
