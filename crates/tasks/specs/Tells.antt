@@ -4,7 +4,7 @@ use Rattle.micro_isa.specs.declared.program.Bundle.{Bundle}
 use Rattle.meanings.specs.Agreement.{Implements}
 use Rattle.sliced_image.specs.Sliced.{sliced_need, sliced_image}
 use Rattle.canonical_text.specs.Canonical.{canonical_text}
-use Rattle.check_report.specs.Report.{IsCheckOf}
+use Rattle.check_report.specs.Checks.{IsCheckOf}
 use Rattle.tasks.specs.declared.status.Status.{Status}
 use Rattle.tasks.specs.declared.status.Status.TheVariants as status
 use Rattle.tasks.specs.declared.task.Task.{Task}

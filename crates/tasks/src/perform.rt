@@ -1,7 +1,7 @@
 ghost use Rattle.std.specs.Prelude.{◌≡◌, IfOk};
 ghost use Rattle.micro_isa.specs.Formed.{IsFormedBundle};
 ghost use Rattle.canonical_text.specs.Canonical.{canonical_text};
-ghost use Rattle.check_report.specs.Report.{IsCheckOf};
+ghost use Rattle.check_report.specs.Checks.{IsCheckOf};
 ghost use Rattle.tasks.specs.Tells.{IsBounded, Tells};
 ghost use Rattle.tasks.specs.declared.status.Status.TheVariants as status;
 
