@@ -45,7 +45,7 @@ ended_served core ending.Idle phases h = absurd (never_idle core h)
 
 -- where nothing in the bundle is a cause, the task is served
 pub served : (t : Task) (answer : Status) (b : Bundle) (text : List ℕ) → Fits t b → Tells t answer b text → IsServed answer
-served (task.Run steps) answer b text fits (inl no) = let above = no.above in absurd (omega (arith, above, fits))
+served (task.Run steps) answer b text fits (inl short) = let above = short.above in absurd (omega (arith, above, fits))
 served (task.Run steps) answer b text fits (inr runs) =
     let r = runs.report in subst IsServed (sym r.answered) (ended_served r.last.core r.end r.last.core.phases r.run.ended)
 served (task.Source steps) answer b text fits r =
