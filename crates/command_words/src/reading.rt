@@ -1,4 +1,4 @@
-ghost use Rattle.std.specs.Prelude.{◌≡◌, IfOk, map, string_bytes, option_map};
+ghost use Rattle.std.specs.Prelude.{◌≡◌, ◌≤◌, IfOk, IfSome, map, string_bytes, option_map};
 ghost use Rattle.command_words.specs.Command.{given_parts};
 ghost use Rattle.command_words.specs.Meaning.{verb_of, number_for, is_bounded, steps_for, is_ordered, turns_of, turns_for, meaning_for, meaning_of, words_meaning};
 
@@ -16,7 +16,8 @@ const DEFAULT_STEPS: u32 = 100_000;
 
 /// What the words behind the program's name mean. None exactly where they are no use of it.
 pub fn read_words(alloc: Global, words: &[String]) -> Result<Option<Meaning>, NoMemory>
-    ensures { IfOk result (λ meaning. meaning ≡ words_meaning (map string_bytes words.now)) }
+    ensures meaning { IfOk result (λ meaning. meaning ≡ words_meaning (map string_bytes words.now)) }
+    ensures bounded { IfOk result (λ meaning. IfSome meaning (λ m. m.steps ≤ 1048576)) }
 {
     match split_words(alloc, words) {
         Ok(Some(given)) => Ok(meaning_of(&given)),
@@ -26,7 +27,8 @@ pub fn read_words(alloc: Global, words: &[String]) -> Result<Option<Meaning>, No
 }
 
 fn meaning_of(given: &Given) -> Option<Meaning>
-    ensures { result ≡ meaning_of (given_parts given.now) }
+    ensures meaning { result ≡ meaning_of (given_parts given.now) }
+    ensures bounded { IfSome result (λ m. m.steps ≤ 1048576) }
 {
     let command = given.command?;
     let verb = verb_of(command.as_bytes())?;
@@ -34,7 +36,8 @@ fn meaning_of(given: &Given) -> Option<Meaning>
 }
 
 fn meaning_for(verb: Verb, given: &Given) -> Option<Meaning>
-    ensures { result ≡ meaning_for verb (given_parts given.now) }
+    ensures meaning { result ≡ meaning_for verb (given_parts given.now) }
+    ensures bounded { IfSome result (λ m. m.steps ≤ 1048576) }
 {
     let number = number_for(verb, given.number)?;
     let steps = steps_for(verb, given.steps)?;
@@ -100,7 +103,8 @@ fn is_bounded(verb: Verb) -> bool
 
 /// The bound of the steps, where the command has one or none is given.
 fn steps_for(verb: Verb, steps: Option<&str>) -> Option<u32>
-    ensures { result ≡ steps_for verb (option_map (λ t. t.now) steps.entry) }
+    ensures steps { result ≡ steps_for verb (option_map (λ t. t.now) steps.entry) }
+    ensures bounded { IfSome result (λ n. n ≤ 1048576) }
 {
     let Some(text) = steps else {
         return Some(DEFAULT_STEPS);

@@ -1,3 +1,2 @@
-pub mod Finishing
 pub mod Replies
-pub mod Reports
+pub mod Finishing

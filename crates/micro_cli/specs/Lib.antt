@@ -1,4 +1,5 @@
-pub mod StatusCodes
+pub mod Words
 pub mod Lines
 pub mod Answers
 pub mod Calls
+pub mod Silences
