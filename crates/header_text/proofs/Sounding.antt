@@ -1,9 +1,8 @@
 -- A header whose lines have no fault is sound.
-use Rattle.std.proofs.Common.{◌≡◌, ◌||◌, ◌&&◌, ◌++◌, ◌≤◌, ◌<◌, ℕ, zero, suc, ◌+◌, Bool, true, false, not, List, [], ◌∷◌, Option, Some, None, length, map, fold, append-nil, refl, sym, ap, ◌∙◌, arith, subst, nat_eq, nat_lt, if◌then◌else◌}
-use Rattle.std.specs.Prelude.{nat_le, sum, slice_get, slice_set, is_none}
+use Rattle.std.proofs.Common.{◌≡◌, ◌||◌, ◌&&◌, ◌++◌, ◌≤◌, ◌<◌, ℕ, ◌+◌, Bool, true, false, not, List, [], ◌∷◌, Option, Some, None, length, map, fold, append-nil, refl, sym, ap, ◌∙◌, arith, subst, nat_eq, nat_lt}
+use Rattle.std.specs.Prelude.{nat_le, sum, slice_get}
 use Rattle.std.specs.List.{list_any, list_all, filter_map}
-use Rattle.std.specs.Str.{bytes_eq}
-use Rattle.std.proofs.lemmas.Bool.{true≢false, and_parts, and_from, or_parts, leb-true, leb-false, ltb-false, lt-ltb}
+use Rattle.std.proofs.lemmas.Bool.{true≢false, and_parts, and_from, leb-true, leb-false, ltb-false, lt-ltb}
 use Rattle.std.proofs.lemmas.Option.{same_Some}
 use Rattle.std.proofs.lemmas.List.{length-append, length-map, map-append}
 use Rattle.std.proofs.lemmas.List.Elements.{filter_map-append}
@@ -15,12 +14,12 @@ use Rattle.micro_isa.specs.Formed.{is_distinct, all_below, has_formed_ring, port
 use Rattle.text_lines.specs.Cutting.{TextLine}
 use Rattle.text_lines.specs.Limits.{most_channels, most_initial_words, largest_file, largest_memory, largest_ring, ports}
 use Rattle.text_lines.specs.Numbers.{number_or}
-use Rattle.text_lines.specs.Tables.{knows, place_of, declare, misnamed, one}
+use Rattle.text_lines.specs.Tables.{knows, place_of, declare}
 use Rattle.text_lines.proofs.First.{none_met, none_at}
-use Rattle.text_lines.proofs.Known.{distinct_snoc, distinct_declare, named_declare, declare_new, other_number, named_one}
-use Rattle.header_text.specs.Forms.{HeaderForm, Blank, File, Memory, Inner, Input, PortInput, Output, PortOutput, Initial, Miscounted, Unknown, header_form, makes, fills, numbers_in, ring_in, port_in}
-use Rattle.header_text.specs.Headers.{Header, no_header, header_of, with_form, with_line, filled, filled_at, replaced, PortFits}
-use Rattle.header_text.specs.Faults.{is_from, is_past_limit, is_bad_port, is_input, form_tests, form_fault, line_fault, faults_after, header_fault}
+use Rattle.text_lines.proofs.Known.{distinct_snoc, distinct_declare, named_declare, declare_new, other_number}
+use Rattle.header_text.specs.Forms.{HeaderForm, Blank, File, Memory, Inner, Input, PortInput, Output, PortOutput, Initial, Miscounted, Unknown, header_form}
+use Rattle.header_text.specs.Headers.{Header, no_header, header_of, with_form, with_line, PortFits}
+use Rattle.header_text.specs.Faults.{is_from, is_bad_port, is_input, form_tests, form_fault, line_fault, faults_after, header_fault}
 use Rattle.header_text.specs.Sound.{IsSound}
 use Rattle.header_text.proofs.Filling.{filled_length, filled_ports, filled_rings, filled_count, sum_cons}
 
