@@ -1,16 +1,13 @@
 -- A text without faults says a formed bundle.
 use Rattle.std.proofs.Common.{◌≡◌, ◌||◌, ◌&&◌, ◌++◌, ◌≤◌, ◌<◌, ℕ, zero, suc, ◌+◌, Bool, true, false, not, List, [], ◌∷◌, Option, Some, None, length, map, refl, sym, ap, ◌∙◌, subst, arith, fold, if◌then◌else◌, nat_eq, append_assoc, append-nil}
 use Rattle.std.specs.Prelude.{nat_le, is_none, unwrap_or}
-use Rattle.std.specs.List.{list_any, list_all}
+use Rattle.std.specs.List.{list_any}
 use Rattle.std.specs.Str.{bytes_eq}
-use Rattle.std.proofs.lemmas.Bool.{true≢false, and_parts, and_from, leb-true, leb-false, le-leb}
+use Rattle.std.proofs.lemmas.Bool.{true≢false, and_parts, and_from, leb-false, le-leb}
 use Rattle.std.proofs.lemmas.List.{length-append}
 use Rattle.std.proofs.lemmas.Option.{same_Some}
-use Rattle.std.specs.Prelude.{slice_get}
-use Rattle.micro_isa.specs.declared.program.Line.{Line}
 use Rattle.micro_isa.specs.declared.program.Program.{Program}
-use Rattle.micro_isa.specs.Formed.{Each, always_rises, is_distinct, fits_channels, IsFormedProgram, IsFormedSetting, IsFormedBundle}
-use Rattle.text_lines.specs.declared.fault.BundleKind.{BundleKind}
+use Rattle.micro_isa.specs.Formed.{Each, always_rises, is_distinct, fits_channels, IsFormedProgram, IsFormedBundle}
 use Rattle.text_lines.specs.declared.fault.BundleKind.TheVariants.{Missing}
 use Rattle.micro_isa.specs.declared.program.Bundle.{Bundle}
 use Rattle.text_lines.specs.Cutting.{Words, TextLine, numbered, lines_from, text_lines}
@@ -26,7 +23,7 @@ use Rattle.header_text.proofs.Sounding.{sound_header}
 use Rattle.context_text.specs.Faults as context
 use Rattle.context_text.proofs.Forming.{program_formed, channels_fit, rises_weaker}
 use Rattle.asm_text.specs.Contexts.{starts, name_in, ahead, has_instruction, start_tests, start_fault, context_fault, names_with, contexts_fault, program_at, programs}
-use Rattle.asm_text.specs.Texts.{header_in, end_fault, lines_fault, text_fault, bundle_said, Spells}
+use Rattle.asm_text.specs.Texts.{header_in, end_fault, lines_fault, bundle_said, Spells}
 
 each_cons : {A : Type 0} (P : A → Type 0) (x : A) (xs : List A) → P x → Each xs P → Each (x ∷ xs) P
 each_cons P x xs p ps zero y e = subst P (same_Some x y e) p
