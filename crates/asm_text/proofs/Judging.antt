@@ -1,8 +1,8 @@
 -- The first fault is that on the least line that has one.
-use Rattle.std.proofs.Common.{◌≡◌, ◌||◌, ◌&&◌, ◌++◌, ℕ, zero, suc, ◌+◌, Bool, true, false, List, [], ◌∷◌, Option, Some, None, length, map, refl, sym, ap, ◌∙◌, subst, arith, if◌then◌else◌, append_assoc, append-nil}
+use Rattle.std.proofs.Common.{◌≡◌, ◌&&◌, ◌++◌, ℕ, zero, suc, ◌+◌, true, false, List, [], ◌∷◌, Option, Some, None, length, map, refl, sym, ap, ◌∙◌, arith, if◌then◌else◌, append_assoc}
 use Rattle.std.specs.Prelude.{is_none}
 use Rattle.std.specs.List.{list_any, list_all, range_with_len}
-use Rattle.std.proofs.lemmas.List.{map-append, length-append}
+use Rattle.std.proofs.lemmas.List.{map-append}
 use Rattle.text_lines.specs.declared.fault.BundleKind.{BundleKind}
 use Rattle.text_lines.specs.declared.fault.BundleKind.TheVariants as kind
 use Rattle.text_lines.specs.declared.fault.BundleFault.{BundleFault}
@@ -16,7 +16,7 @@ use Rattle.context_text.specs.Faults as context
 use Rattle.context_text.specs.Said.{Said, said_by}
 use Rattle.asm_text.specs.Contexts.{starts, ahead, start_fault, context_fault, names_with, contexts_fault}
 use Rattle.asm_text.specs.Texts.{header_in, end_fault, lines_fault, text_fault}
-use Rattle.asm_text.specs.Verdicts.{Verdict, header_verdicts, body_verdicts, contexts_verdicts, end_verdict, verdicts, IsFirstFault, Tells}
+use Rattle.asm_text.specs.Verdicts.{Verdict, header_verdicts, body_verdicts, contexts_verdicts, end_verdict, verdicts, Tells}
 
 -- the first fault of verdicts
 abbrev first_told : List Verdict → Option At

@@ -3,9 +3,8 @@ use Rattle.std.proofs.Common.{◌≡◌, ℕ, List, Some, None, sym, ◌∙◌}
 use Rattle.micro_isa.specs.declared.program.Bundle.{Bundle}
 use Rattle.text_lines.specs.declared.fault.BundleFault.{BundleFault}
 use Rattle.text_lines.specs.declared.fault.BundleFault.TheVariants as fault
-use Rattle.text_lines.specs.Cutting.{text_lines}
 use Rattle.text_lines.specs.Faults.{At, Causes}
-use Rattle.asm_text.specs.Texts.{text_fault, bundle_said, Spells, SpellsAlone, SpellsNone}
+use Rattle.asm_text.specs.Texts.{text_fault, Spells, SpellsAlone, SpellsNone}
 
 pub spelled_alone : (text : List ℕ) (b : Bundle) → Spells text b → SpellsAlone text b
 spelled_alone text b s other o = o.said ∙ sym s.said

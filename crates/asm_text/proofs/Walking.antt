@@ -1,5 +1,5 @@
 -- One line further among the lines of contexts.
-use Rattle.std.proofs.Common.{◌≡◌, ◌<◌, ℕ, ◌+◌, Bool, true, false, List, [], ◌∷◌, length, drop, get_or, Option, Some, None, refl, sym, ap, ◌∙◌, subst, if◌then◌else◌}
+use Rattle.std.proofs.Common.{◌≡◌, ◌<◌, ℕ, ◌+◌, true, List, ◌∷◌, length, drop, get_or, Option, sym, ap, ◌∙◌, subst, if◌then◌else◌}
 use Rattle.text_lines.specs.declared.fault.BundleFault.{BundleFault}
 use Rattle.text_lines.specs.Cutting.{Words, TextLine}
 use Rattle.text_lines.specs.Faults.{At, or_else, Causes}

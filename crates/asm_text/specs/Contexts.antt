@@ -1,5 +1,5 @@
 -- Context lines, and the contexts that they begin.
-use Rattle.std.specs.Prelude.{ℕ, ◌&&◌, not, nat_le, nat_eq, Bool, true, false, List, [], ◌∷◌, Option, Some, None, is_none, unwrap_or, if◌then◌else◌, length, fold, codes}
+use Rattle.std.specs.Prelude.{ℕ, ◌&&◌, not, nat_le, nat_eq, Bool, false, List, [], ◌∷◌, Option, Some, None, is_none, unwrap_or, if◌then◌else◌, length, fold, codes}
 use Rattle.std.specs.List.{list_any}
 use Rattle.std.specs.Str.{bytes_eq}
 use Rattle.micro_isa.specs.declared.program.Program.{Program}

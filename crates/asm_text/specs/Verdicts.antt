@@ -1,5 +1,5 @@
 -- The verdict on each line of a text, which the first fault is the first of.
-use Rattle.std.specs.Prelude.{ℕ, ◌≡◌, ◌+◌, ◌++◌, Bool, true, List, [], ◌∷◌, Option, Some, None, is_none, if◌then◌else◌, length, map}
+use Rattle.std.specs.Prelude.{ℕ, ◌≡◌, ◌+◌, ◌++◌, true, List, [], ◌∷◌, Option, Some, None, is_none, if◌then◌else◌, length, map}
 use Rattle.std.specs.List.{list_any, list_all, range_with_len}
 use Rattle.text_lines.specs.declared.fault.BundleKind.{BundleKind}
 use Rattle.text_lines.specs.declared.fault.BundleKind.TheVariants as kind

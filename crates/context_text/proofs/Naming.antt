@@ -4,6 +4,7 @@ use Rattle.std.specs.List.{list_all}
 use Rattle.std.proofs.lemmas.Bool.{or_parts, ltb-false}
 use Rattle.micro_isa.specs.Names.{name_test}
 use Rattle.text_lines.specs.Cutting.{TextLine}
+use Rattle.text_lines.specs.Limits.{most_registers, most_instructions}
 use Rattle.text_lines.specs.Tables.{knows, misnamed, one}
 use Rattle.std.specs.List.{list_any}
 use Rattle.text_lines.proofs.First.{none_met, none_at}
@@ -46,7 +47,7 @@ pub named : (chs : Channels) (lines : List TextLine) → lines_fault chs lines �
 named chs lines e = named_after chs (said_by lines) [] lines (record { labels = refl; registers = refl }) e
 
 -- a line without a fault has no register too many
-pub few_registers : (chs : Channels) (twice : Bool) (now all : Said) (fair : Bool) (b : Body) → body_fault chs twice now all fair b ≡ None → length now.registers ≤ 128
+pub few_registers : (chs : Channels) (twice : Bool) (now all : Said) (fair : Bool) (b : Body) → body_fault chs twice now all fair b ≡ None → length now.registers ≤ most_registers
 few_registers chs twice now all fair b e =
     let t = none_met (body_tests chs twice now all fair b) e in
-    ltb-false 128 (length now.registers) (or_parts (nat_lt 128 (length now.registers)) (nat_lt 2048 now.done) t.1.1.1.1.1.0).0
+    ltb-false most_registers (length now.registers) (or_parts (nat_lt most_registers (length now.registers)) (nat_lt most_instructions now.done) t.1.1.1.1.1.0).0

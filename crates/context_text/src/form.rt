@@ -4,6 +4,7 @@ ghost use Rattle.context_text.specs.Said.{line_body};
 ghost use Rattle.context_text.specs.Views.{seen_form, seen_body};
 ghost use Rattle.text_lines.specs.Tables.{words_seen};
 
+use crate::mnemonic::{alu_named, div_named, test_named};
 use micro_isa::{AluOp, DivOp, Test};
 use text_lines::Row;
 
@@ -187,75 +188,6 @@ fn branch_form<'a>(holds: Test, operands: &[&'a [u8]]) -> Form<'a>
         [a, b, label] => Form::Branch { holds, a, b, label },
         _ => Form::Miscounted,
     }
-}
-
-/// The operation of a mnemonic.
-fn alu_named(word: &[u8]) -> Option<AluOp>
-    ensures { result ≡ alu_named word.now }
-{
-    if word == b"add".as_slice() {
-        return Some(AluOp::Add);
-    }
-    if word == b"sub".as_slice() {
-        return Some(AluOp::Sub);
-    }
-    if word == b"mul".as_slice() {
-        return Some(AluOp::Mul);
-    }
-    if word == b"and".as_slice() {
-        return Some(AluOp::And);
-    }
-    if word == b"or".as_slice() {
-        return Some(AluOp::Or);
-    }
-    if word == b"xor".as_slice() {
-        return Some(AluOp::Xor);
-    }
-    if word == b"shl".as_slice() {
-        return Some(AluOp::Shl);
-    }
-    if word == b"shr".as_slice() {
-        return Some(AluOp::Shr);
-    }
-    if word == b"ltu".as_slice() {
-        return Some(AluOp::Ltu);
-    }
-    if word == b"eq".as_slice() {
-        return Some(AluOp::Eq);
-    }
-    None
-}
-
-/// The division of a mnemonic.
-fn div_named(word: &[u8]) -> Option<DivOp>
-    ensures { result ≡ div_named word.now }
-{
-    if word == b"div".as_slice() {
-        return Some(DivOp::Quotient);
-    }
-    if word == b"rem".as_slice() {
-        return Some(DivOp::Remainder);
-    }
-    None
-}
-
-/// The test of a branch's mnemonic.
-fn test_named(word: &[u8]) -> Option<Test>
-    ensures { result ≡ test_named word.now }
-{
-    if word == b"beq".as_slice() {
-        return Some(Test::Eq);
-    }
-    if word == b"bne".as_slice() {
-        return Some(Test::Ne);
-    }
-    if word == b"bltu".as_slice() {
-        return Some(Test::Ltu);
-    }
-    if word == b"bgeu".as_slice() {
-        return Some(Test::Geu);
-    }
-    None
 }
 
 fn single_form<'a>(word: &[u8], operands: &[&'a [u8]]) -> Form<'a>

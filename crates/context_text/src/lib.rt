@@ -3,6 +3,7 @@
 
 mod fault;
 mod form;
+mod mnemonic;
 mod program;
 mod reader;
 mod said;

@@ -1,6 +1,7 @@
 ghost use Rattle.std.specs.Prelude.{◌≡◌, ◌++◌, ◌<◌, ◌≤◌, [], ◌∷◌, OnOk, IfOk, length, slice_index, true};
 ghost use Rattle.std.specs.List.{list_all};
 ghost use Rattle.micro_isa.specs.Names.{name_test};
+ghost use Rattle.text_lines.specs.Limits.{most_channels, most_registers};
 ghost use Rattle.text_lines.specs.Tables.{words_seen, place_of};
 ghost use Rattle.context_text.specs.Programs.{register, target, instr_in, on_line, labels_from};
 ghost use Rattle.context_text.specs.Views.{seen_form, seen_said};
@@ -13,14 +14,14 @@ use std::alloc::Global;
 use text_lines::{name_of, number_or, place_of};
 
 fn register<'a>(registers: &IndexSet<&'a [u8]>, name: &'a [u8]) -> VReg
-    requires { length registers.now.keys ≤ 128 }
+    requires { length registers.now.keys ≤ most_registers }
     ensures { result ≡ register (words_seen registers.now.keys) name.now }
 {
     VReg(place_of(registers, name) as u16)
 }
 
 fn channel<'a>(names: &IndexSet<&'a [u8]>, name: &'a [u8]) -> u8
-    requires { length names.now.keys ≤ 16 }
+    requires { length names.now.keys ≤ most_channels }
     ensures { result ≡ place_of (words_seen names.now.keys) name.now }
 {
     place_of(names, name) as u8
@@ -57,8 +58,8 @@ fn instr_in<'a>(
     all: &Said<'a>,
     form: Form<'a>,
 ) -> Option<Instr<VReg>>
-    requires registers { length registers.now.keys ≤ 128 }
-    requires channels { length names.now.keys ≤ 16 }
+    requires registers { length registers.now.keys ≤ most_registers }
+    requires channels { length names.now.keys ≤ most_channels }
     ensures { result ≡ instr_in (words_seen registers.now.keys) (words_seen names.now.keys) (seen_said all.now) (seen_form form.entry) }
 {
     let rs = registers;
@@ -132,8 +133,8 @@ pub fn push_code<'a>(
     all: &Said<'a>,
     form: Form<'a>,
 ) -> Result<(), NoMemory>
-    requires registers { length registers.now.keys ≤ 128 }
-    requires channels { length names.now.keys ≤ 16 }
+    requires registers { length registers.now.keys ≤ most_registers }
+    requires channels { length names.now.keys ≤ most_channels }
     ensures { OnOk result (code.new ≡ code.old ++ on_line line (instr_in (words_seen registers.now.keys) (words_seen names.now.keys) (seen_said all.now) (seen_form form.entry))) }
 {
     match instr_in(registers, names, all, form) {

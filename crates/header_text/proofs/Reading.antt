@@ -1,5 +1,5 @@
 -- One line further in the header.
-use Rattle.std.proofs.Common.{◌≡◌, ◌<◌, ℕ, ◌+◌, List, [], ◌∷◌, length, drop, get_or, fold, Option, Some, None, refl, sym, ap, ◌∙◌, subst}
+use Rattle.std.proofs.Common.{◌≡◌, ◌<◌, ℕ, ◌+◌, List, length, drop, get_or, fold, Option, None, sym, ap, ◌∙◌, subst}
 use Rattle.text_lines.specs.declared.fault.BundleFault.{BundleFault}
 use Rattle.text_lines.specs.Cutting.{TextLine}
 use Rattle.text_lines.specs.Faults.{At, at_or, Causes}

@@ -6,12 +6,12 @@ use Rattle.micro_isa.specs.declared.program.Channel.TheVariants as channel
 use Rattle.micro_isa.specs.Formed.{port_of}
 use Rattle.text_lines.specs.declared.fault.BundleKind.{BundleKind}
 use Rattle.text_lines.specs.declared.fault.BundleKind.TheVariants as kind
-use Rattle.text_lines.specs.Cutting.{Words, TextLine}
+use Rattle.text_lines.specs.Cutting.{TextLine}
 use Rattle.text_lines.specs.Faults.{At, first_kind, at_or}
 use Rattle.text_lines.specs.Limits.{most_channels, most_initial_words, largest_file, largest_memory, largest_ring, ports}
 use Rattle.text_lines.specs.Numbers.{number_or, is_no_number}
 use Rattle.text_lines.specs.Tables.{knows, place_of, misnamed, one}
-use Rattle.header_text.specs.Forms.{HeaderForm, Blank, File, Memory, Inner, Input, PortInput, Output, PortOutput, Initial, Miscounted, Unknown, header_form, is_unknown, is_miscounted, makes, fills, numbers_in, ring_in, port_in}
+use Rattle.header_text.specs.Forms.{HeaderForm, File, Memory, Initial, header_form, is_unknown, is_miscounted, makes, fills, numbers_in, ring_in, port_in}
 use Rattle.header_text.specs.Headers.{Header, no_header, with_line}
 
 abbrev pub is_from : ℕ → ℕ → List ℕ → Bool

@@ -1,6 +1,5 @@
 -- What the lines before the first context say.
 use Rattle.std.specs.Prelude.{ℕ, ◌+◌, ◌++◌, List, [], ◌∷◌, Option, Some, None, map, length, fold, slice_get, slice_set, unwrap_or, ◌<◌}
-use Rattle.micro_isa.specs.declared.program.PortUse.{PortUse}
 use Rattle.micro_isa.specs.declared.program.Channel.{Channel}
 use Rattle.micro_isa.specs.declared.program.Channel.TheVariants as channel
 use Rattle.micro_isa.specs.declared.program.Setting.{Setting}
@@ -8,7 +7,7 @@ use Rattle.text_lines.specs.Cutting.{Words, TextLine}
 use Rattle.text_lines.specs.Limits.{ports}
 use Rattle.text_lines.specs.Numbers.{number_or}
 use Rattle.text_lines.specs.Tables.{declare, place_of, one}
-use Rattle.header_text.specs.Forms.{HeaderForm, Blank, File, Memory, Inner, Input, PortInput, Output, PortOutput, Initial, Miscounted, Unknown, header_form, makes}
+use Rattle.header_text.specs.Forms.{HeaderForm, File, Memory, Inner, Input, PortInput, Output, PortOutput, Initial, header_form, makes}
 
 -- the sizes, the channels with their names, and how many initial words there are in all
 pub record Header : Type 0 where

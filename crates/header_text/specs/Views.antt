@@ -1,5 +1,4 @@
 -- What stands in the text, for values that lend it.
-use Rattle.std.specs.Prelude.{ℕ, List, map}
 use Rattle.text_lines.specs.Tables.{words_seen}
 use Rattle.header_text.specs.Forms as spec
 use Rattle.header_text.specs.Headers as headers

@@ -1,7 +1,7 @@
 ghost use Rattle.std.specs.Prelude.{◌≡◌, ◌≤◌, ◌||◌, [], ◌∷◌, nat_eq, not, nat_le, length, slice_get, option_map};
 ghost use Rattle.std.specs.List.{list_any, filter_map};
 ghost use Rattle.micro_isa.specs.Formed.{port_of};
-ghost use Rattle.text_lines.specs.Limits.{most_channels, largest_ring};
+ghost use Rattle.text_lines.specs.Limits.{most_channels, most_initial_words, largest_ring};
 ghost use Rattle.text_lines.specs.Numbers.{number_or, is_no_number};
 ghost use Rattle.text_lines.specs.Tables.{words_seen, place_of, one};
 ghost use Rattle.header_text.specs.Forms.{makes, fills, numbers_in, ring_in, port_in};
@@ -58,7 +58,7 @@ fn is_from(least: u32, most: u32, word: &[u8]) -> bool
 }
 
 fn is_size_past(header: &Header, form: HeaderForm) -> bool
-    requires { header.now.words ≤ 65536 }
+    requires { header.now.words ≤ most_initial_words }
     ensures { result ≡ is_size_past (seen_header header.now) (seen_form form.entry) }
 {
     match form {
@@ -89,7 +89,7 @@ fn is_one_too_many(names: &IndexSet<&[u8]>, made: Option<&[u8]>) -> bool
 }
 
 fn is_past_limit(header: &Header, form: HeaderForm) -> bool
-    requires { header.now.words ≤ 65536 }
+    requires { header.now.words ≤ most_initial_words }
     ensures { result ≡ is_past_limit (seen_header header.now) (seen_form form.entry) }
 {
     is_size_past(header, form) || has_bad_ring(form) || is_one_too_many(&header.names, makes(form))
@@ -180,7 +180,7 @@ pub fn form_fault<'a>(
     fair: bool,
     form: HeaderForm<'a, '_>,
 ) -> Option<BundleKind>
-    requires { header.now.words ≤ 65536 }
+    requires { header.now.words ≤ most_initial_words }
     ensures { result ≡ form_fault (seen_header header.now) fair (seen_form form.entry) }
 {
     if !fair {

@@ -1,4 +1,5 @@
 ghost use Rattle.std.specs.Prelude.{◌≡◌, ◌+◌, ◌++◌, ◌<◌, ◌≤◌, ◌^◌, [], ◌∷◌, OnOk, Some, None, map, fold, length};
+ghost use Rattle.text_lines.specs.Limits.{most_initial_words, ports};
 ghost use Rattle.text_lines.specs.Numbers.{number_or};
 ghost use Rattle.text_lines.specs.Tables.{words_seen, declare, place_of, one};
 ghost use Rattle.header_text.specs.Headers.{no_header, filled, filled_at, with_made, with_form, PortFits};
@@ -81,14 +82,14 @@ fn add_channel<'a>(
 }
 
 fn port_number(port: &[u8]) -> u8
-    requires { number_or port.now < 16 }
+    requires { number_or port.now < ports }
     ensures { result ≡ number_or port.now }
 {
     number_or(port) as u8
 }
 
 fn port_input(alloc: Global, port: &[u8], capacity: &[u8]) -> Channel
-    requires { number_or port.now < 16 }
+    requires { number_or port.now < ports }
     ensures { result ≡ channel_of.Input [] (Some (record { number = number_or port.now; capacity = number_or capacity.now })) }
 {
     Channel::Input {
@@ -107,7 +108,7 @@ pub fn note<'a>(
     form: HeaderForm<'a, '_>,
 ) -> Result<(), NoMemory>
     requires port { PortFits (seen_form form) }
-    requires words { header.old.words ≤ 65536 }
+    requires words { header.old.words ≤ most_initial_words }
     ensures { OnOk result (seen_header header.new ≡ with_form (seen_header header.old) (seen_form form.entry)) }
 {
     let names = &mut header.names;

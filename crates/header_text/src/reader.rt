@@ -1,5 +1,6 @@
 ghost use Rattle.std.specs.Prelude.{◌≡◌, ◌≤◌, None, IfOk, OnOk, IfErr};
 ghost use Rattle.text_lines.specs.Faults.{Causes, at_or};
+ghost use Rattle.text_lines.specs.Limits.{most_initial_words};
 ghost use Rattle.header_text.specs.Headers.{with_line, header_of};
 ghost use Rattle.header_text.specs.Faults.{line_fault, header_fault};
 ghost use Rattle.header_text.specs.Sound.{IsSound};
@@ -12,7 +13,7 @@ use std::alloc::Global;
 use text_lines::{BundleFault, Row};
 
 fn read_line<'a>(alloc: Global, header: &mut Header<'a>, row: &Row<'a>) -> Result<(), BundleFault>
-    requires { header.old.words ≤ 65536 }
+    requires { header.old.words ≤ most_initial_words }
     ensures header { OnOk result (seen_header header.new ≡ with_line (seen_header header.old) row.now) }
     ensures fine { OnOk result (line_fault (seen_header header.old) row.now ≡ None) }
     ensures cause { IfErr result (λ why. Causes why (at_or row.now.number (line_fault (seen_header header.old) row.now) None)) }

@@ -1,5 +1,5 @@
 -- A cause of one line is a cause of the lines that it begins.
-use Rattle.std.proofs.Common.{◌≡◌, ℕ, Option, Some, None}
+use Rattle.std.proofs.Common.{ℕ, Option, Some, None}
 use Rattle.text_lines.specs.declared.fault.BundleKind.{BundleKind}
 use Rattle.text_lines.specs.declared.fault.BundleFault.{BundleFault}
 use Rattle.text_lines.specs.declared.fault.BundleFault.TheVariants as fault

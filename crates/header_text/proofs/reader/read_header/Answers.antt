@@ -1,6 +1,6 @@
-use Rattle.std.proofs.Common.{◌≡◌, sym, ap, ◌∙◌, subst, drop, fold}
+use Rattle.std.proofs.Common.{sym, ap, subst, fold}
 use Rattle.header_text.specs.Faults.{faults_after, header_fault}
-use Rattle.header_text.specs.Headers.{Header, with_line, header_of, no_header}
+use Rattle.header_text.specs.Headers.{with_line, header_of}
 use Rattle.header_text.specs.Sound.{IsSound}
 use Rattle.header_text.specs.Views.{seen_header}
 use Rattle.header_text.proofs.Reading.{free_on, said_on, fault_on}

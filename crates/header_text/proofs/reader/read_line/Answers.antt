@@ -1,4 +1,4 @@
-use Rattle.std.proofs.Common.{◌≡◌, sym, ◌∙◌}
+use Rattle.std.proofs.Common.{sym, ◌∙◌}
 use Rattle.header_text.specs.Views.{seen_header, seen_form}
 use Rattle.header_text.proofs.Sounding.{port_fits}
 use Rattle.header_text.proofs.reader.read_line.Goals as goal

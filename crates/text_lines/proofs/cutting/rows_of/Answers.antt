@@ -1,7 +1,7 @@
-use Rattle.std.proofs.Common.{rules, ◌≡◌, ◌==◌, ◌+◌, ◌++◌, ◌-◌, [], ◌∷◌, map, length, List, ℕ, take, drop, get_or, true, false, not, arith, sym, ap, ◌∙◌, append_assoc}
+use Rattle.std.proofs.Common.{rules, ◌≡◌, ◌==◌, ◌+◌, ◌++◌, ◌-◌, [], length, take, drop, get_or, true, false, arith, sym, ap, ◌∙◌}
 use Rattle.std.proofs.lemmas.Bool.Decides.{nat_tests}
 use Rattle.std.proofs.lemmas.List.{length-append}
-use Rattle.text_lines.specs.Cutting.{lines_from, numbered, piece}
+use Rattle.text_lines.specs.Cutting.{lines_from, numbered}
 use Rattle.text_lines.proofs.Steps.{lines_on, lines_cut, row_more}
 use Rattle.text_lines.proofs.cutting.rows_of.Goals as goal
 

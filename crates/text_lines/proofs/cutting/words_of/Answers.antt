@@ -1,5 +1,5 @@
-use Rattle.std.proofs.Common.{rules, ◌≡◌, ◌+◌, ◌++◌, ◌-◌, [], ◌∷◌, map, length, List, ℕ, take, drop, get_or, true, false, not, arith, sym, ap, ◌∙◌, append_assoc}
-use Rattle.text_lines.specs.Cutting.{words_from, is_gap, piece}
+use Rattle.std.proofs.Common.{rules, ◌≡◌, ◌++◌, map, get_or, true, false, arith, sym, ap, ◌∙◌, append_assoc}
+use Rattle.text_lines.specs.Cutting.{is_gap}
 use Rattle.text_lines.proofs.Steps.{words_on, words_cut}
 use Rattle.text_lines.proofs.cutting.words_of.Goals as goal
 
