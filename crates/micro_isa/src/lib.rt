@@ -12,5 +12,5 @@ pub use arithmetic::{AluOp, DivOp, Test, alu, divide, test_holds};
 pub use image::{Code, Image, PReg, Range, Word};
 pub use instr::{Instr, Next, Reads, reads_of, successors, switches, writes};
 pub use list::{List, NoMemory};
-pub use name::Name;
+pub use name::{Name, is_name};
 pub use program::{Bundle, Channel, Label, Line, PortUse, Program, Setting, VReg};

@@ -56,7 +56,8 @@ impl PartialEq for Name {
     }
 }
 
-fn is_name(bytes: &[u8]) -> bool
+/// Whether these bytes are a name.
+pub fn is_name(bytes: &[u8]) -> bool
     ensures { result ≡ name_test bytes.now }
 {
     match bytes {

@@ -1,0 +1,77 @@
+-- Context lines, and the contexts that they begin.
+use Rattle.std.specs.Prelude.{ℕ, ◌&&◌, not, nat_le, nat_eq, Bool, true, false, List, [], ◌∷◌, Option, Some, None, is_none, unwrap_or, if◌then◌else◌, length, fold, codes}
+use Rattle.std.specs.List.{list_any}
+use Rattle.std.specs.Str.{bytes_eq}
+use Rattle.micro_isa.specs.declared.program.Program.{Program}
+use Rattle.text_lines.specs.declared.fault.BundleKind.{BundleKind}
+use Rattle.text_lines.specs.declared.fault.BundleKind.TheVariants as kind
+use Rattle.text_lines.specs.Cutting.{Words, TextLine}
+use Rattle.text_lines.specs.Faults.{At, first_kind, at_or, or_else}
+use Rattle.text_lines.specs.Limits.{most_contexts}
+use Rattle.text_lines.specs.Tables.{knows, declare, misnamed, one}
+use Rattle.header_text.specs.Headers.{Header}
+use Rattle.context_text.specs.Faults.{channels, lines_fault}
+use Rattle.context_text.specs.Forms.{does}
+use Rattle.context_text.specs.Programs.{program_of}
+use Rattle.context_text.specs.Said.{line_body}
+
+-- a line whose first word is `context` begins a context
+abbrev pub starts : Words → Bool
+starts [] = false
+starts (word ∷ words) = bytes_eq word (codes "context")
+
+-- the name on a context line
+abbrev pub name_in : Words → Option (List ℕ)
+name_in (word ∷ name ∷ []) = Some name
+name_in _ = None
+
+-- the lines before the next context line
+abbrev pub ahead : List TextLine → List TextLine
+ahead [] = []
+ahead (line ∷ lines) = if starts line.words then [] else line ∷ ahead lines
+
+-- an instruction line stands among these
+abbrev pub has_instruction : List TextLine → Bool
+has_instruction lines = list_any (λ line. does (line_body line).form) lines
+
+-- the kinds of a context line in their order: `names` are those of earlier contexts, `lines` those of its own
+abbrev pub start_tests : Header → Words → TextLine → List TextLine → List (Bool × BundleKind)
+start_tests h names line lines =
+    (not line.fair, kind.Byte)
+    ∷ (is_none (name_in line.words), kind.Operands)
+    ∷ (misnamed (one (name_in line.words)), kind.Name)
+    ∷ (nat_le most_contexts (length names), kind.Limit)
+    ∷ (list_any (knows names) (one (name_in line.words)), kind.Repeated)
+    ∷ (is_none h.file && nat_eq (length names) 0, kind.Missing)
+    ∷ (not (has_instruction lines), kind.Empty)
+    ∷ []
+
+abbrev pub start_fault : Header → Words → TextLine → List TextLine → Option BundleKind
+start_fault h names line lines = first_kind (start_tests h names line lines)
+
+-- the first fault of a context line and the lines of its context
+abbrev pub context_fault : Header → Words → TextLine → List TextLine → Option At
+context_fault h names line lines =
+    at_or line.number (start_fault h names line lines) (lines_fault (channels h.names h.channels) lines)
+
+-- the names of contexts with that of one more
+abbrev pub names_with : Words → TextLine → Words
+names_with names line = fold declare names (one (name_in line.words))
+
+-- the first fault of all contexts among these lines; `names` are those of earlier contexts
+abbrev pub contexts_fault : Header → Words → List TextLine → Option At
+contexts_fault h names [] = None
+contexts_fault h names (line ∷ lines) =
+    if starts line.words
+    then or_else (context_fault h names line (ahead lines)) (contexts_fault h (names_with names line) lines)
+    else contexts_fault h names lines
+
+-- the program that a context line and the lines of its context say
+abbrev pub program_at : Header → TextLine → List TextLine → Program
+program_at h line lines = program_of h.names (unwrap_or (name_in line.words) []) lines
+
+-- the programs of all contexts among these lines
+abbrev pub programs : Header → List TextLine → List Program
+programs h [] = []
+programs h (line ∷ lines) =
+    if starts line.words then program_at h line (ahead lines) ∷ programs h lines else programs h lines

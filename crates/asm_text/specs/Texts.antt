@@ -1,0 +1,43 @@
+-- The first fault of a text, and the bundle that a text spells.
+use Rattle.std.specs.Prelude.{ℕ, ◌≡◌, ◌+◌, List, [], Option, Some, None, unwrap_or, if◌then◌else◌, length}
+use Rattle.std.specs.List.{list_any}
+use Rattle.micro_isa.specs.declared.program.Bundle.{Bundle}
+use Rattle.text_lines.specs.declared.fault.BundleKind.TheVariants as kind
+use Rattle.text_lines.specs.Cutting.{TextLine, text_lines}
+use Rattle.text_lines.specs.Faults.{At, or_else}
+use Rattle.header_text.specs.Headers.{Header, header_of, setting_of}
+use Rattle.header_text.specs.Faults.{header_fault}
+use Rattle.asm_text.specs.Contexts.{starts, ahead, contexts_fault, programs}
+
+-- what the lines before the first context say
+abbrev pub header_in : List TextLine → Header
+header_in lines = header_of (ahead lines)
+
+-- a text without a context line
+abbrev pub end_fault : List TextLine → Option At
+end_fault lines =
+    if list_any (λ line. starts line.words) lines then None
+    else Some (record { line = length lines + 1; kind = kind.Missing })
+
+-- the first fault of lines: before the first context, in the contexts, or behind them
+abbrev pub lines_fault : List TextLine → Option At
+lines_fault lines =
+    or_else (header_fault (ahead lines)) (or_else (contexts_fault (header_in lines) [] lines) (end_fault lines))
+
+-- the first fault of a text
+abbrev pub text_fault : List ℕ → Option At
+text_fault text = lines_fault (text_lines text)
+
+-- what the lines say: the size of the file, memory, channels with their names and words, and a program a context
+abbrev pub bundle_said : List TextLine → Bundle
+bundle_said lines = record {
+  file = unwrap_or (header_in lines).file 0;
+  setting = setting_of (header_in lines);
+  names = (header_in lines).names;
+  programs = programs (header_in lines) lines;
+}
+
+-- the text has no fault, and its lines say the bundle
+pub record Spells (text : List ℕ) (b : Bundle) : Type 0 where
+  pub free : text_fault text ≡ None
+  pub said : b ≡ bundle_said (text_lines text)

@@ -1,0 +1,97 @@
+ghost use Rattle.std.specs.Prelude.{◌≡◌, ◌<◌, ◌≤◌, None, IfOk, OnOk, IfErr, length, unwrap_or, true};
+ghost use Rattle.std.specs.List.{list_all, list_any};
+ghost use Rattle.micro_isa.specs.Names.{name_test};
+ghost use Rattle.text_lines.specs.Faults.{Causes};
+ghost use Rattle.text_lines.specs.Tables.{words_seen};
+ghost use Rattle.header_text.specs.Headers.{setting_of};
+ghost use Rattle.header_text.specs.Views.{seen_header};
+ghost use Rattle.micro_isa.specs.Formed.{IsFormedBundle};
+ghost use Rattle.asm_text.specs.Contexts.{starts};
+ghost use Rattle.asm_text.specs.Texts.{bundle_said, lines_fault, text_fault, Spells};
+ghost use Rattle.asm_text.specs.Verdicts.{Tells};
+
+use crate::context::{ahead, read_contexts, starts};
+use header_text::{Header, read_header};
+use micro_isa::{Bundle, List, NoMemory, Program, Setting};
+use std::alloc::Global;
+use text_lines::{BundleFault, BundleKind, Row, names_of, rows_of};
+
+fn has_context(rows: &[Row]) -> bool
+    ensures { result ≡ list_any (λ line. starts line.words) rows.now }
+{
+    for row in rows {
+        if starts(row.words()) {
+            return true;
+        }
+    }
+    false
+}
+
+fn bundle_of(alloc: Global, header: Header, programs: List<Program>) -> Result<Bundle, NoMemory>
+    requires { list_all name_test (words_seen header.names.keys) ≡ true }
+    ensures { IfOk result (λ b. b ≡ record { file = unwrap_or header.entry.file 0; setting = setting_of (seen_header header.entry); names = words_seen header.entry.names.keys; programs = programs }) }
+{
+    let names = names_of(alloc, header.names.as_slice())?;
+    Ok(Bundle {
+        file: header.file.unwrap_or(0),
+        setting: Setting {
+            memory: header.memory.unwrap_or(0),
+            channels: List::of(header.channels),
+        },
+        names,
+        programs,
+    })
+}
+
+/// The bundle that the lines say, or their first fault.
+fn read_lines<'a>(alloc: Global, rows: &[Row<'a>]) -> Result<Bundle, BundleFault>
+    requires { length rows.now < 4294967295 }
+    ensures free { OnOk result (lines_fault rows.now ≡ None) }
+    ensures said { IfOk result (λ b. b ≡ bundle_said rows.now) }
+    ensures cause { IfErr result (λ why. Causes why (lines_fault rows.now)) }
+{
+    let header = match read_header(alloc, ahead(rows)) {
+        Ok(header) => header,
+        Err(why) => return Err(why),
+    };
+    let programs = match read_contexts(alloc, &header, rows) {
+        Ok(programs) => programs,
+        Err(why) => return Err(why),
+    };
+    if !has_context(rows) {
+        return Err(BundleFault::At {
+            line: rows.len() as u32 + 1,
+            kind: BundleKind::Missing,
+        });
+    }
+    match bundle_of(alloc, header, programs) {
+        Ok(bundle) => Ok(bundle),
+        Err(_) => Err(BundleFault::NoMemory),
+    }
+}
+
+fn read_text(alloc: Global, text: &[u8]) -> Result<Bundle, BundleFault>
+    requires { length text.now ≤ 2097152 }
+    ensures fine { IfOk result (λ b. Spells text.now b) }
+    ensures cause { IfErr result (λ why. Causes why (text_fault text.now)) }
+{
+    match rows_of(alloc, text) {
+        Ok(rows) => read_lines(alloc, rows.as_slice()),
+        Err(_) => Err(BundleFault::NoMemory),
+    }
+}
+
+/// The bundle that a text spells, or the first fault of the text.
+#[tactic(auto, using(crate::proofs::Forming::spelled_formed, crate::proofs::Judging::tells))]
+pub fn read_bundle(alloc: Global, text: &[u8]) -> Result<Bundle, BundleFault>
+    requires { length text.now ≤ 2097152 }
+    ensures fine { IfOk result (λ b. Spells text.now b) }
+    ensures formed { IfOk result IsFormedBundle }
+    ensures cause { IfErr result (λ why. Causes why (text_fault text.now)) }
+    ensures tells { IfErr result (λ why. Tells why text.now) }
+{
+    match read_text(alloc, text) {
+        Ok(bundle) => Ok(bundle),
+        Err(why) => Err(why),
+    }
+}

@@ -1,0 +1,7 @@
+pub mod Forming
+pub mod Instructing
+pub mod Labelling
+pub mod Naming
+pub mod Numbering
+pub mod Ordering
+pub mod Steps

@@ -1,0 +1,5 @@
+pub mod Faults
+pub mod Forms
+pub mod Programs
+pub mod Said
+pub mod Views

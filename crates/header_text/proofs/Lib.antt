@@ -1,0 +1,4 @@
+pub mod Filling
+pub mod Ports
+pub mod Reading
+pub mod Sounding

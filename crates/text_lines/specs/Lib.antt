@@ -1,0 +1,5 @@
+pub mod Cutting
+pub mod Faults
+pub mod Limits
+pub mod Numbers
+pub mod Tables

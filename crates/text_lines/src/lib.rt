@@ -1,0 +1,20 @@
+//! Cuts a text into numbered lines of words, reads numbers, keeps tables of names, and names the faults
+//! that a bundle's text can have.
+#![tactic(auto)]
+
+mod cutting;
+mod fault;
+mod limits;
+mod number;
+mod table;
+
+pub use cutting::{Row, rows_of};
+pub use fault::{BundleFault, BundleKind, kind_text};
+pub use limits::{
+    LARGEST_FILE, LARGEST_MEMORY, LARGEST_RING, MOST_CHANNELS, MOST_CONTEXTS, MOST_INITIAL_WORDS,
+    MOST_INSTRUCTIONS, MOST_REGISTERS, PORTS,
+};
+pub use number::{number_or, word_number};
+pub use table::{
+    declare, find, has_name, is_misnamed, is_stray, knows, name_of, names_of, place_of,
+};
