@@ -1,1 +1,16 @@
+mod Bytes
+mod ContextAgain
+mod ContextLines
+mod FreeTests
+mod HeaderAgain
+mod InTurn
+mod InstructionAgain
 mod Labels
+mod Lines
+mod PlainRows
+mod Tables
+mod Taken
+mod Targets
+mod TextAgain
+mod Walking
+mod Words
