@@ -6,7 +6,7 @@ use Rattle.std.proofs.lemmas.List.Folds.{list_all-append}
 use Rattle.std.specs.List.{list_all}
 use Rattle.text_lines.specs.Cutting.{Words, words_from, lines_from, told, is_gap, is_allowed, piece, line_of, numbered, text_lines}
 use Rattle.canonical_text.specs.Rows.{Row, Flush, Indented, led_by, spaced, operands_text, row_text, rows_text}
-use Rattle.canonical_text.specs.Plain.{is_plain, is_plain_word, row_words, is_plain_row, lines_with}
+use Rattle.canonical_text.proofs.Plain.{is_plain, is_plain_word, row_words, is_plain_row, lines_with}
 
 -- ---- bytes
 

@@ -18,7 +18,7 @@ use Rattle.context_text.specs.Faults.{channels, lines_fault, faults_after}
 use Rattle.context_text.specs.Programs.{program_of, labels_from as labels_said, code_after}
 use Rattle.context_text.specs.Said.{Said, nothing, said_by}
 use Rattle.canonical_text.specs.Canonical.{labels_at, label_row, instruction_row, line_rows, code_rows}
-use Rattle.canonical_text.specs.Plain.{lines_with}
+use Rattle.canonical_text.proofs.Plain.{lines_with}
 use Rattle.canonical_text.specs.Typed.{NumberFits, IsTypedProgram}
 use Rattle.canonical_text.specs.Again.{unlined_code, unlined_program}
 use Rattle.canonical_text.proofs.ContextLines.{stands, final, Placed, label_walk, instruction_walk}

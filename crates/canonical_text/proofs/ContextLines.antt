@@ -23,7 +23,7 @@ use Rattle.context_text.specs.Forms as form
 use Rattle.context_text.specs.Programs.{instr_in, on_line}
 use Rattle.context_text.specs.Said.{Said, with_body, count, targets_after}
 use Rattle.canonical_text.specs.Canonical.{name_at, target_name, instruction_row}
-use Rattle.canonical_text.specs.Plain.{row_words}
+use Rattle.canonical_text.proofs.Plain.{row_words}
 use Rattle.canonical_text.specs.Typed.{NumberFits}
 use Rattle.canonical_text.proofs.FreeTests.{no_kind}
 use Rattle.canonical_text.proofs.InTurn.{InTurn, grown, declare_all}

@@ -23,7 +23,7 @@ use Rattle.header_text.specs.Forms as form
 use Rattle.header_text.specs.Headers.{Header, no_header, with_line, filled, replaced, filled_at}
 use Rattle.header_text.specs.Faults.{is_from, is_bad_port, is_input, form_tests, line_fault, faults_after}
 use Rattle.canonical_text.specs.Canonical.{words_rows, input_row, channel_rows, channels_rows, header_rows}
-use Rattle.canonical_text.specs.Plain.{row_words, lines_with}
+use Rattle.canonical_text.proofs.Plain.{row_words, lines_with}
 use Rattle.canonical_text.specs.Typed.{WordsFit, IsTyped}
 use Rattle.canonical_text.proofs.FreeTests.{no_kind}
 use Rattle.canonical_text.proofs.Lines.{lines-append}

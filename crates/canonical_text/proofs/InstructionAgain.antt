@@ -25,7 +25,7 @@ use Rattle.context_text.specs.Forms as form
 use Rattle.context_text.specs.Programs.{register, target, instr_in}
 use Rattle.context_text.specs.Said.{Said}
 use Rattle.canonical_text.specs.Canonical.{name_at, register_name, target_name, instruction_row}
-use Rattle.canonical_text.specs.Plain.{row_words}
+use Rattle.canonical_text.proofs.Plain.{row_words}
 use Rattle.canonical_text.specs.Typed.{NumberFits}
 use Rattle.canonical_text.proofs.InTurn.{AllKnown, known_place, name_is}
 use Rattle.canonical_text.proofs.Tables.{place_is, known_at}

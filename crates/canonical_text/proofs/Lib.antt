@@ -7,6 +7,7 @@ mod InTurn
 mod InstructionAgain
 mod Labels
 mod Lines
+mod Plain
 mod PlainRows
 mod Tables
 mod Taken

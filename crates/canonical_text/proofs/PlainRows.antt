@@ -25,7 +25,7 @@ use Rattle.micro_isa.specs.Formed as formed
 use Rattle.text_lines.specs.Cutting.{Words}
 use Rattle.canonical_text.specs.Rows.{Row, Flush}
 use Rattle.canonical_text.specs.Canonical.{alu_word, div_word, branch_word, name_at, register_name, target_name, labels_at, label_row, instruction_row, line_rows, code_rows, context_rows, words_rows, input_row, output_row, channel_rows, channels_rows, header_rows, canonical_rows}
-use Rattle.canonical_text.specs.Plain.{is_plain, is_plain_word, is_plain_row}
+use Rattle.canonical_text.proofs.Plain.{is_plain, is_plain_word, is_plain_row}
 use Rattle.canonical_text.specs.Typed.{WordsFit, NumberFits, IsTyped}
 use Rattle.canonical_text.proofs.ContextAgain.{Good, there, number_there}
 use Rattle.canonical_text.proofs.InstructionAgain.{named_at, reached, met, giver, taker, numbers_of}

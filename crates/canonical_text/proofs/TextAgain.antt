@@ -33,7 +33,7 @@ use Rattle.asm_text.specs.Contexts.{starts, ahead, has_instruction, start_tests,
 use Rattle.asm_text.specs.Texts.{header_in, end_fault, lines_fault, text_fault, bundle_said}
 use Rattle.canonical_text.specs.Rows.{Row}
 use Rattle.canonical_text.specs.Canonical.{labels_at, label_row, instruction_row, line_rows, code_rows, context_rows, words_rows, channel_rows, channels_rows, header_rows, canonical_rows, canonical_text}
-use Rattle.canonical_text.specs.Plain.{row_words, lines_with}
+use Rattle.canonical_text.proofs.Plain.{row_words, lines_with}
 use Rattle.canonical_text.specs.Typed.{IsTypedProgram, IsTyped}
 use Rattle.canonical_text.specs.Again.{unlined, unlined_program, SpellsAgain}
 use Rattle.canonical_text.proofs.Bytes.{rows_again}

@@ -12,7 +12,7 @@ use Rattle.std.specs.Str.Parse.{AllDigits, digits_value}
 use Rattle.micro_isa.specs.Names.{name_test, is_head, is_tail}
 use Rattle.micro_kit.specs.Numbers.{number_of}
 use Rattle.text_lines.specs.Numbers.{word_number, after_0x, hex_or, number_or, is_no_number}
-use Rattle.canonical_text.specs.Plain.{is_plain, is_plain_word}
+use Rattle.canonical_text.proofs.Plain.{is_plain, is_plain_word}
 
 tail_plain : (c : ℕ) → is_tail c ≡ true → is_plain c ≡ true
 tail_plain c e = grind (arith, nat_tests)
