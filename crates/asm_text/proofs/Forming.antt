@@ -51,7 +51,12 @@ first_of false e = refl
 started_as : (h : Header) (names : Words) (line : TextLine) (lines : List TextLine) (o : Option (List ℕ)) → name_in line.words ≡ o → is_none o ≡ false → list_any (knows names) (one o) ≡ false → length names < 8 → (is_none h.file && nat_eq (length names) 0) ≡ false → has_instruction lines ≡ true → IsStarted h names line lines
 started_as h names line lines None is some new room file has = absurd (true≢false some)
 started_as h names line lines (Some name) is some new room file has = record {
-  name = name; is = is; new = first_of (knows names name) new; room = room; file = file; some = has;
+  name = name;
+  is = is;
+  new = first_of (knows names name) new;
+  room = room;
+  file = file;
+  some = has;
 }
 
 started : (h : Header) (names : Words) (line : TextLine) (lines : List TextLine) → start_fault h names line lines ≡ None → IsStarted h names line lines

@@ -3,6 +3,8 @@ use Rattle.std.specs.Prelude.{ℕ, ◌≡◌, ◌+◌, List, [], Option, Some, N
 use Rattle.std.specs.List.{list_any}
 use Rattle.micro_isa.specs.declared.program.Bundle.{Bundle}
 use Rattle.text_lines.specs.declared.fault.BundleKind.TheVariants as kind
+use Rattle.text_lines.specs.declared.fault.BundleFault.{BundleFault}
+use Rattle.text_lines.specs.declared.fault.BundleFault.TheVariants as fault
 use Rattle.text_lines.specs.Cutting.{TextLine, text_lines}
 use Rattle.text_lines.specs.Faults.{At, or_else}
 use Rattle.header_text.specs.Headers.{Header, header_of, setting_of}
@@ -41,3 +43,12 @@ bundle_said lines = record {
 pub record Spells (text : List ℕ) (b : Bundle) : Type 0 where
   pub free : text_fault text ≡ None
   pub said : b ≡ bundle_said (text_lines text)
+
+-- the text spells no other bundle
+abbrev pub SpellsAlone : List ℕ → Bundle → Type 0
+SpellsAlone text b = (other : Bundle) → Spells text other → other ≡ b
+
+-- a text that has a fault spells no bundle
+abbrev pub SpellsNone : BundleFault → List ℕ → Type 0
+SpellsNone (fault.At line k) text = (b : Bundle) → Spells text b → ⊥
+SpellsNone fault.NoMemory text = Unit {0}

@@ -35,7 +35,7 @@ contexts_verdicts h names [] = []
 contexts_verdicts h names (line ∷ lines) =
     if starts line.words
     then (line.number, start_fault h names line (ahead lines))
-        ∷ (body_verdicts (context.channels h.names h.channels) (said_by (ahead lines)) [] (ahead lines) ++ contexts_verdicts h (names_with names line) lines)
+    ∷ (body_verdicts (context.channels h.names h.channels) (said_by (ahead lines)) [] (ahead lines) ++ contexts_verdicts h (names_with names line) lines)
     else contexts_verdicts h names lines
 
 -- on the line after the last

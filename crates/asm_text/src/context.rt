@@ -113,13 +113,7 @@ fn read_one<'a>(
     if declare(names, name).is_err() {
         return Err(BundleFault::NoMemory);
     }
-    match read_context(
-        alloc,
-        &header.names,
-        header.channels.as_slice(),
-        name,
-        rows,
-    ) {
+    match read_context(alloc, &header.names, header.channels.as_slice(), name, rows) {
         Ok(program) => Ok(program),
         Err(why) => Err(why),
     }

@@ -19,3 +19,5 @@ mod reader;
 
 pub use reader::read_bundle;
 
+#[cfg(test)]
+mod tests;

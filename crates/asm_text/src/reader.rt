@@ -7,7 +7,7 @@ ghost use Rattle.header_text.specs.Headers.{setting_of};
 ghost use Rattle.header_text.specs.Views.{seen_header};
 ghost use Rattle.micro_isa.specs.Formed.{IsFormedBundle};
 ghost use Rattle.asm_text.specs.Contexts.{starts};
-ghost use Rattle.asm_text.specs.Texts.{bundle_said, lines_fault, text_fault, Spells};
+ghost use Rattle.asm_text.specs.Texts.{bundle_said, lines_fault, text_fault, Spells, SpellsAlone, SpellsNone};
 ghost use Rattle.asm_text.specs.Verdicts.{Tells};
 
 use crate::context::{ahead, read_contexts, starts};
@@ -82,12 +82,14 @@ fn read_text(alloc: Global, text: &[u8]) -> Result<Bundle, BundleFault>
 }
 
 /// The bundle that a text spells, or the first fault of the text.
-#[tactic(auto, using(crate::proofs::Forming::spelled_formed, crate::proofs::Judging::tells))]
+#[tactic(auto, using(crate::proofs::Spelling::spelled_alone, crate::proofs::Spelling::unspelled, crate::proofs::Forming::spelled_formed, crate::proofs::Judging::tells))]
 pub fn read_bundle(alloc: Global, text: &[u8]) -> Result<Bundle, BundleFault>
     requires { length text.now ≤ 2097152 }
     ensures fine { IfOk result (λ b. Spells text.now b) }
+    ensures alone { IfOk result (SpellsAlone text.now) }
     ensures formed { IfOk result IsFormedBundle }
     ensures cause { IfErr result (λ why. Causes why (text_fault text.now)) }
+    ensures unspelled { IfErr result (λ why. SpellsNone why text.now) }
     ensures tells { IfErr result (λ why. Tells why text.now) }
 {
     match read_text(alloc, text) {

@@ -52,7 +52,9 @@ code_line chs all s least line None later f end le c =
     let registers : (with_line s line).registers ≡ s.registers = ap (fold declare s.registers) f.1 in
     record {
       counted = omega (arith, c.counted, same);
-      named = c.named; labelled = c.labelled; fits = c.fits;
+      named = c.named;
+      labelled = c.labelled;
+      fits = c.fits;
       numbered = ap (λ r. firsts_after (numbers r) (named_by later)) (sym registers) ∙ c.numbered;
       rises = rises_weaker least (line.number + 1) (map (λ l. l.line) later) (omega arith) c.rises;
       ends = c.ends;
@@ -68,10 +70,10 @@ code_line chs all s least line (Some i) later f end le c =
       labelled = and_from (is_labelled (labels_from 0 all.labels all.targets) (target_of i)) (list_all (λ l. is_labelled (labels_from 0 all.labels all.targets) (target_of l.instr)) later) f.2 c.labelled;
       fits = and_from (fits_channels chs.kinds i) (list_all (λ l. fits_channels chs.kinds l.instr) later) f.3 c.fits;
       numbered =
-        ap (λ ns. firsts_after (numbers s.registers) (ns ++ named_by later)) f.4
-        ∙ firsts-append (numbers s.registers) (map _ (registers_in form)) (named_by later)
-        ∙ ap (λ seen. firsts_after seen (named_by later)) (first_names (registers_in form) s.registers now.registers (places_all now.registers))
-        ∙ c.numbered;
+          ap (λ ns. firsts_after (numbers s.registers) (ns ++ named_by later)) f.4
+          ∙ firsts-append (numbers s.registers) (map _ (registers_in form)) (named_by later)
+          ∙ ap (λ seen. firsts_after seen (named_by later)) (first_names (registers_in form) s.registers now.registers (places_all now.registers))
+          ∙ c.numbered;
       rises = and_from (nat_le least line.number) (always_rises (line.number + 1) (map (λ l. l.line) later)) (le-leb least line.number le) c.rises;
       ends = last_of l later (λ none. f.5 ∙ end f.0 (omega (arith, c.counted, none))) c.ends;
     }
@@ -88,14 +90,16 @@ coded_line chs all s least line later o grown e le c =
     let t = none_met (body_tests chs (list_any (knows s.labels) (one b.label)) now all line.fair b) e in
     let clean : IsClean chs all b.form = record { known = t.1.0; counted = t.1.1.0; channel = t.1.1.1.1.1.1.1.1.0; label = t.1.1.1.1.1.1.1.1.1.0 } in
     code_line chs all s least line (instr_in now.registers chs.names all b.form) later
-      (form_fact chs all now b.form clean o (known_fold (registers_in b.form) s.registers) grown)
-      (λ is same. end_here now.done all.done (does b.form) (ends b.form) (is_some b.label) is same t.1.1.1.1.1.1.1.1.1.1.0)
-      le c
+    (form_fact chs all now b.form clean o (known_fold (registers_in b.form) s.registers) grown)
+    (λ is same. end_here now.done all.done (does b.form) (ends b.form) (is_some b.label) is same t.1.1.1.1.1.1.1.1.1.1.0)
+    le c
 
 coded_after : (chs : Channels) (all : Said) (before lines : List TextLine) (least : ℕ) → IsOrderly all all → faults_after chs all before lines ≡ None → all ≡ fold with_line (said_by before) lines → always_rises least (map (λ l. l.number) lines) ≡ true → IsCode chs all (said_by before) least (code_after chs.names all before lines)
 coded_after chs all before [] least o e is rises = record {
   counted = omega (arith, ap (λ (a : Said). a.done) is);
-  named = refl; labelled = refl; fits = refl;
+  named = refl;
+  labelled = refl;
+  fits = refl;
   numbered = ap (λ (a : Said). numbers a.registers) (sym is);
   rises = refl;
   ends = λ last none. absurd (cc);

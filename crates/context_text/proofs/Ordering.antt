@@ -39,7 +39,11 @@ reached_later a b (x ∷ xs) le e =
 
 labels_later : (total done more : ℕ) (labels : Words) (targets : List ℕ) → done ≤ more → AreLabels total done labels targets → AreLabels total more labels targets
 labels_later total done more labels targets le l = record {
-  distinct = l.distinct; same = l.same; order = l.order; reached = reached_later done more targets le l.reached; below = l.below;
+  distinct = l.distinct;
+  same = l.same;
+  order = l.order;
+  reached = reached_later done more targets le l.reached;
+  below = l.below;
 }
 
 label_new : (total done : ℕ) (labels : Words) (targets : List ℕ) (name : List ℕ) → AreLabels total done labels targets → done < total → knows labels name ≡ false → AreLabels total done (labels ++ name ∷ []) (targets ++ done ∷ [])
@@ -93,7 +97,7 @@ orderly_line chs all s line o le e =
       done = ltb-false 2048 now.done limits.1;
       distinct = distinct_fold (registers_in b.form) s.registers o.distinct;
       labels = labels_later all.done s.done now.done now.labels now.targets (omega arith)
-        (labels_with all.done s.done s.labels s.targets b.label o.labels (λ name is. before_end all s b name le t.1.1.1.1.1.1.1.1.1.1.0 is));
+          (labels_with all.done s.done s.labels s.targets b.label o.labels (λ name is. before_end all s b name le t.1.1.1.1.1.1.1.1.1.1.0 is));
     }
 
 count_grows : (s : Said) (line : TextLine) → s.done ≤ (with_line s line).done
@@ -131,6 +135,8 @@ orderly chs lines e = orderly_after chs (said_by lines) [] lines none e refl
   where
     none : IsOrderly (said_by lines) (said_by [])
     none = record {
-      registers = omega arith; done = omega arith; distinct = refl;
+      registers = omega arith;
+      done = omega arith;
+      distinct = refl;
       labels = record { distinct = refl; same = refl; order = refl; reached = refl; below = refl };
     }

@@ -78,11 +78,7 @@ fn takes_words(channel: Option<&Channel>) -> bool
     }
 }
 
-fn gives_none<'a>(
-    names: &IndexSet<&'a [u8]>,
-    kinds: &[Channel],
-    channel: Option<&'a [u8]>,
-) -> bool
+fn gives_none<'a>(names: &IndexSet<&'a [u8]>, kinds: &[Channel], channel: Option<&'a [u8]>) -> bool
     ensures { result ≡ gives_none (channels (words_seen names.now.keys) kinds.now) (option_map (λ n. n.now) channel.entry) }
 {
     match channel {
@@ -91,11 +87,7 @@ fn gives_none<'a>(
     }
 }
 
-fn takes_none<'a>(
-    names: &IndexSet<&'a [u8]>,
-    kinds: &[Channel],
-    channel: Option<&'a [u8]>,
-) -> bool
+fn takes_none<'a>(names: &IndexSet<&'a [u8]>, kinds: &[Channel], channel: Option<&'a [u8]>) -> bool
     ensures { result ≡ takes_none (channels (words_seen names.now.keys) kinds.now) (option_map (λ n. n.now) channel.entry) }
 {
     match channel {

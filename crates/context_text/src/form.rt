@@ -166,12 +166,7 @@ fn alu_form<'a>(op: AluOp, operands: &[&'a [u8]]) -> Form<'a>
     ensures { seen_form result ≡ alu_form op (words_seen operands.now) }
 {
     match operands {
-        [to, a, b] => Form::Alu {
-            op,
-            to,
-            a,
-            b,
-        },
+        [to, a, b] => Form::Alu { op, to, a, b },
         _ => Form::Miscounted,
     }
 }
@@ -180,12 +175,7 @@ fn div_form<'a>(op: DivOp, operands: &[&'a [u8]]) -> Form<'a>
     ensures { seen_form result ≡ div_form op (words_seen operands.now) }
 {
     match operands {
-        [to, a, b] => Form::Div {
-            op,
-            to,
-            a,
-            b,
-        },
+        [to, a, b] => Form::Div { op, to, a, b },
         _ => Form::Miscounted,
     }
 }
@@ -194,12 +184,7 @@ fn branch_form<'a>(holds: Test, operands: &[&'a [u8]]) -> Form<'a>
     ensures { seen_form result ≡ branch_form holds (words_seen operands.now) }
 {
     match operands {
-        [a, b, label] => Form::Branch {
-            holds,
-            a,
-            b,
-            label,
-        },
+        [a, b, label] => Form::Branch { holds, a, b, label },
         _ => Form::Miscounted,
     }
 }

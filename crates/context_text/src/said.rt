@@ -110,12 +110,7 @@ pub fn note<'a>(said: &mut Said<'a>, body: Body<'a>) -> Result<(), NoMemory>
     requires { said.old.done < 4294967295 }
     ensures { OnOk result (seen_said said.new ≡ with_body (seen_said said.old) (seen_body body.entry)) }
 {
-    note_label(
-        &mut said.labels,
-        &mut said.targets,
-        said.done,
-        body.label,
-    )?;
+    note_label(&mut said.labels, &mut said.targets, said.done, body.label)?;
     note_registers(&mut said.registers, body.form)?;
     said.done = counted(said.done, body.form);
     Ok(())

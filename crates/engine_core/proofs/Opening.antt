@@ -1,21 +1,20 @@
 -- An engine is sound at its opening.
-use Rattle.std.proofs.Common.{◌≡◌, ℕ, zero, suc, ◌+◌, ◌<◌, ◌≤◌, List, [], ◌∷◌, length, Option, Some, None, Bool, true, false, refl, sym, ap, ◌∙◌, subst, arith, replicate, map}
-use Rattle.std.specs.Prelude.{slice_get, ◌&&◌, nat_lt}
+use Rattle.std.proofs.Common.{◌≡◌, ℕ, zero, suc, ◌≤◌, List, length, Some, None, Bool, true, false, refl, sym, ap, ◌∙◌, subst, arith, replicate, map}
+use Rattle.std.specs.Prelude.{slice_get, ◌&&◌}
 use Rattle.std.proofs.lemmas.Bool.{ltb-true}
 use Rattle.micro_isa.specs.declared.instr.Instr.{Instr}
 use Rattle.micro_isa.specs.declared.instr.Instr.TheVariants.{Li, Mov, Alu, Div, Ctx, Jmp, Branch, Load, Store, Yield, Recv, Send, Halt}
 use Rattle.micro_isa.specs.declared.image.PReg.{PReg}
-use Rattle.micro_isa.specs.declared.image.Word.{Word}
 use Rattle.micro_isa.specs.declared.image.Code.{Code}
 use Rattle.micro_isa.specs.declared.image.Image.{Image}
-use Rattle.micro_isa.specs.Formed.{all_below, option_below, registers_in, target_of, names_below, IsFormedCode, IsFormedImage}
+use Rattle.micro_isa.specs.Formed.{all_below, option_below, registers_in, target_of, IsFormedCode, IsFormedImage}
 use Rattle.std.proofs.lemmas.List.{length-replicate}
 use Rattle.world.specs.declared.event.Phase.TheVariants.{Ready}
 use Rattle.meanings.specs.Machine.{machine_open}
 use Rattle.meanings.specs.Core.{Core, opening_core}
 use Rattle.engine_core.specs.declared.place.ContextPlace.{ContextPlace}
 use Rattle.engine_core.specs.Steps.{TargetBelow, AllTargets}
-use Rattle.engine_core.specs.EngineState.{kept_of, moment_of, IsContext, IsSound}
+use Rattle.engine_core.specs.EngineState.{kept_of, moment_of, IsSound}
 
 both : (a b : Bool) → (a && b) ≡ true → b ≡ true
 both true b h = h

@@ -1,5 +1,5 @@
 -- What a counted word that goes on adds to the stretch so far.
-use Rattle.std.proofs.Common.{◌≡◌, ℕ, suc, ◌+◌, ◌-◌, ◌<◌, List, Option, Some, refl, sym, ap, ◌∙◌, arith}
+use Rattle.std.proofs.Common.{◌≡◌, ℕ, suc, ◌+◌, ◌-◌, ◌<◌, List, Option, Some, sym, ap, ◌∙◌, arith}
 use Rattle.std.specs.Prelude.{slice_get, option_map}
 use Rattle.micro_isa.specs.declared.image.PReg.{PReg}
 use Rattle.micro_isa.specs.declared.image.Word.{Word}
@@ -7,7 +7,7 @@ use Rattle.meanings.specs.declared.Stop.{Stop}
 use Rattle.meanings.specs.Events.{Gone}
 use Rattle.meanings.specs.Source.{spent}
 use Rattle.meanings.specs.Effects.{Onward, Ends, effect_of, effect_at}
-use Rattle.meanings.specs.Machine.{Running, read_in, write_all, settled, word_at, numbered_word, advance_on, counted_from}
+use Rattle.meanings.specs.Machine.{Running, read_in, write_all, settled, numbered_word, advance_on, counted_from}
 use Rattle.engine_core.specs.Steps.{later}
 
 later-spent : (k : ℕ) (g : Gone Running) → later k (spent g) ≡ later (k + 1) g

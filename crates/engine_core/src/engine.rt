@@ -1,18 +1,18 @@
-ghost use Rattle.std.specs.Prelude.{◌≡◌, ◌+◌, ◌≤◌, IfOk, None, length, replicate};
+ghost use Rattle.std.specs.Prelude.{◌≡◌, ◌+◌, ◌≤◌, IfOk, None, replicate};
 ghost use Rattle.micro_isa.specs.Formed.{IsFormedImage};
-ghost use Rattle.world.specs.WorldState.{can_feed, is_plugged};
+ghost use Rattle.world.specs.WorldState.{can_feed};
 ghost use Rattle.world.specs.declared.event.Event.TheVariants.{Run as RunOf, Feed as FeedOf, Unplug as UnplugOf};
 ghost use Rattle.world.specs.declared.event.Seen.TheVariants.{Ran as RanOf, Fed as FedOf, Unplugged as UnpluggedOf};
-ghost use Rattle.meanings.specs.Core.{illegal_of, is_runnable, ending_of, shown_core, steps_left};
+ghost use Rattle.meanings.specs.Core.{illegal_of, shown_core, steps_left};
 ghost use Rattle.meanings.specs.Events.{happens};
-ghost use Rattle.meanings.specs.Machine.{machine_side, machine_open, received_word, words_of};
+ghost use Rattle.meanings.specs.Machine.{Machine, machine_side, machine_open, received_word, words_of};
 ghost use Rattle.engine_core.specs.EngineState.{moment_of, IsSound};
-ghost use Rattle.engine_core.specs.Segments.{GoesOn};
+ghost use Rattle.run_core.specs.Segments.{GoesOn};
 
 use crate::place::ContextPlace;
 use crate::words::{advance, write};
 use micro_isa::{Image, NoMemory, PReg, Word};
-use run_core::RunCore;
+use run_core::{Interpreter, RunCore};
 use std::alloc::Global;
 use std::marker::Model;
 use world::{End, Event, Illegal, Output, Segment, View};
@@ -64,28 +64,6 @@ impl Engine {
         self.core.illegal(event)
     }
 
-    /// The number of contexts.
-    pub fn contexts(&self) -> u32
-        ensures number { result ≡ length self.now.core.phases }
-        ensures small { result ≤ 8 }
-    {
-        self.contexts.len() as u32
-    }
-
-    /// Whether a context can go on; false where there is none of this number.
-    pub fn runnable(&self, context: u32) -> bool
-        ensures { result ≡ is_runnable self.now.core context }
-    {
-        self.core.is_runnable(context)
-    }
-
-    /// How the run ended, if it did: cut by the bound, finished, or stuck.
-    pub fn ending(&self) -> Option<End>
-        ensures { result ≡ ending_of self.now.core }
-    {
-        self.core.ending()
-    }
-
     /// What the run shows.
     pub fn view(&self, alloc: Global) -> Result<View, NoMemory>
         ensures { IfOk result (λ view. view ≡ shown_core self.now.core) }
@@ -128,16 +106,36 @@ impl Engine {
         self.core.can_feed(channel)
     }
 
-    /// Whether the port of a channel is plugged.
-    pub fn plugged(&self, channel: u8) -> bool
-        ensures { result ≡ is_plugged self.now.core.world channel }
+    /// Feeds a word to an input.
+    pub fn feed(&mut self, channel: u8, word: u32)
+        requires legal { illegal_of self.old.core (FeedOf channel word) ≡ None }
+        ensures image { self.new.image ≡ self.old.image }
+        ensures happens { happens (machine_side self.old.image) (moment_of self.old) (FeedOf channel word) ≡ (moment_of self.new, FedOf) }
     {
-        self.core.plugged(channel)
+        self.core.feed(channel, word);
+    }
+}
+
+impl Interpreter for Engine {
+    ghost State = { Machine };
+
+    ghost side = { λ e. machine_side e.image };
+
+    ghost moment = { moment_of };
+
+    fn contexts(&self) -> u32 {
+        self.contexts.len() as u32
     }
 
-    /// One segment of a context that may run: the completion of what it waits for, and its words up
-    /// to the next stop.
-    pub fn segment(&mut self, context: u32) -> Segment
+    fn runnable(&self, context: u32) -> bool {
+        self.core.is_runnable(context)
+    }
+
+    fn ending(&self) -> Option<End> {
+        self.core.ending()
+    }
+
+    fn segment(&mut self, context: u32) -> Segment
         requires legal { illegal_of self.old.core (RunOf context) ≡ None }
         ensures image { self.new.image ≡ self.old.image }
         ensures happens { happens (machine_side self.old.image) (moment_of self.old) (RunOf context) ≡ (moment_of self.new, RanOf result) }
@@ -152,17 +150,11 @@ impl Engine {
         )
     }
 
-    /// Feeds a word to an input.
-    pub fn feed(&mut self, channel: u8, word: u32)
-        requires legal { illegal_of self.old.core (FeedOf channel word) ≡ None }
-        ensures image { self.new.image ≡ self.old.image }
-        ensures happens { happens (machine_side self.old.image) (moment_of self.old) (FeedOf channel word) ≡ (moment_of self.new, FedOf) }
-    {
-        self.core.feed(channel, word);
+    fn plugged(&self, channel: u8) -> bool {
+        self.core.plugged(channel)
     }
 
-    /// Unplugs the port of a channel.
-    pub fn unplug(&mut self, channel: u8)
+    fn unplug(&mut self, channel: u8)
         requires legal { illegal_of self.old.core (UnplugOf channel) ≡ None }
         ensures image { self.new.image ≡ self.old.image }
         ensures happens { happens (machine_side self.old.image) (moment_of self.old) (UnplugOf channel) ≡ (moment_of self.new, UnpluggedOf) }

@@ -68,8 +68,7 @@ ports_snoc chs c None e free below apart =
     (ap (all_below 16) same ∙ below, ap (is_distinct nat_eq) same ∙ apart)
 ports_snoc chs c (Some p) e free below apart =
     let same : filter_map port_of (chs ++ c ∷ []) ≡ filter_map port_of chs ++ p ∷ [] = filter_map-append port_of chs (c ∷ []) ∙ ap (λ l. filter_map port_of chs ++ l) (a_port c p e) in
-    let ok = free p refl in
-    (
+    let ok = free p refl in (
       ap (all_below 16) same ∙ list_all-append (λ x. nat_lt x 16) (filter_map port_of chs) (p ∷ []) ∙ and_from (all_below 16 (filter_map port_of chs)) (nat_lt p 16 && true) below (and_from (nat_lt p 16) true (lt-ltb p 16 ok.0) refl),
       ap (is_distinct nat_eq) same ∙ distinct_snoc nat_eq other_number (filter_map port_of chs) p apart ok.1,
     )
@@ -145,8 +144,16 @@ sound_form h fair (File size) s e =
     let is : (1 ≤ number_or size) × (number_or size ≤ 128) = (leb-true 1 (number_or size) range.0, leb-true (number_or size) 128 range.1) in
     record {
       file = λ n same. subst (λ n. (1 ≤ n) × (n ≤ 128)) (same_Some (number_or size) n same) is;
-      memory = s.memory; few = s.few; same = s.same; named = s.named; distinct = s.distinct;
-      rings = s.rings; ports = s.ports; apart = s.apart; counted = s.counted; words = s.words;
+      memory = s.memory;
+      few = s.few;
+      same = s.same;
+      named = s.named;
+      distinct = s.distinct;
+      rings = s.rings;
+      ports = s.ports;
+      apart = s.apart;
+      counted = s.counted;
+      words = s.words;
     }
 sound_form h fair (Memory size) s e =
     let t = none_met (form_tests h fair (Memory size)) e in
@@ -155,8 +162,15 @@ sound_form h fair (Memory size) s e =
     record {
       file = s.file;
       memory = λ n same. subst (λ n. n ≤ 65536) (same_Some (number_or size) n same) is;
-      few = s.few; same = s.same; named = s.named; distinct = s.distinct;
-      rings = s.rings; ports = s.ports; apart = s.apart; counted = s.counted; words = s.words;
+      few = s.few;
+      same = s.same;
+      named = s.named;
+      distinct = s.distinct;
+      rings = s.rings;
+      ports = s.ports;
+      apart = s.apart;
+      counted = s.counted;
+      words = s.words;
     }
 sound_form h fair (Inner name capacity) s e =
     let t = none_met (form_tests h fair (Inner name capacity)) e in
@@ -217,9 +231,12 @@ sound_form h fair (Initial name numbers) s e =
     let is = size_part (is_input (slice_get h.channels at)) t.1.1.1.1.1.1.1.1.1.0 in
     let fits = ltb-false 65536 (h.words + length numbers) (first_of (nat_lt 65536 (h.words + length numbers)) t.1.1.1.1.1.0) in
     record {
-      file = s.file; memory = s.memory; few = s.few;
+      file = s.file;
+      memory = s.memory;
+      few = s.few;
       same = s.same ∙ sym (filled_length h.channels at more);
-      named = s.named; distinct = s.distinct;
+      named = s.named;
+      distinct = s.distinct;
       rings = filled_rings h.channels at more ∙ s.rings;
       ports = ap (all_below 16) (filled_ports h.channels at more) ∙ s.ports;
       apart = ap (is_distinct nat_eq) (filled_ports h.channels at more) ∙ s.apart;

@@ -13,8 +13,8 @@ use crate::header::Header;
 use indexmap::IndexSet;
 use micro_isa::Channel;
 use text_lines::{
-    BundleKind, LARGEST_FILE, LARGEST_MEMORY, LARGEST_RING, MOST_CHANNELS, MOST_INITIAL_WORDS, PORTS,
-    has_name, is_misnamed, is_stray, number_or, place_of, word_number,
+    BundleKind, LARGEST_FILE, LARGEST_MEMORY, LARGEST_RING, MOST_CHANNELS, MOST_INITIAL_WORDS,
+    PORTS, has_name, is_misnamed, is_stray, number_or, place_of, word_number,
 };
 
 fn is_no_number(word: &[u8]) -> bool
@@ -102,7 +102,8 @@ fn port_of(channel: &Channel) -> Option<u8>
         Channel::Inner { .. } => None,
         Channel::Input { port: None, .. } => None,
         Channel::Input {
-            port: Some(port), ..
+            port: Some(port),
+            ..
         } => Some(port.number),
         Channel::Output { port } => *port,
     }
@@ -164,11 +165,7 @@ fn is_input(channel: Option<&Channel>) -> bool
     }
 }
 
-fn is_no_input<'a>(
-    names: &IndexSet<&'a [u8]>,
-    channels: &[Channel],
-    name: Option<&'a [u8]>,
-) -> bool
+fn is_no_input<'a>(names: &IndexSet<&'a [u8]>, channels: &[Channel], name: Option<&'a [u8]>) -> bool
     ensures { result ≡ list_any (λ name. not (is_input (slice_get channels.now (place_of (words_seen names.now.keys) name)))) (one (option_map (λ n. n.now) name.entry)) }
 {
     match name {

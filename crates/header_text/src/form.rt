@@ -102,11 +102,7 @@ fn input_form<'a, 'b>(operands: &'b [&'a [u8]]) -> HeaderForm<'a, 'b>
     }
 }
 
-fn port_output_form<'a, 'b>(
-    name: &'a [u8],
-    word: &'a [u8],
-    port: &'a [u8],
-) -> HeaderForm<'a, 'b>
+fn port_output_form<'a, 'b>(name: &'a [u8], word: &'a [u8], port: &'a [u8]) -> HeaderForm<'a, 'b>
     ensures { seen_form result ≡ port_output_form name.now word.now port.now }
 {
     if is_port_word(word) {

@@ -11,11 +11,7 @@ use crate::header::{Header, no_header, note};
 use std::alloc::Global;
 use text_lines::{BundleFault, Row};
 
-fn read_line<'a>(
-    alloc: Global,
-    header: &mut Header<'a>,
-    row: &Row<'a>,
-) -> Result<(), BundleFault>
+fn read_line<'a>(alloc: Global, header: &mut Header<'a>, row: &Row<'a>) -> Result<(), BundleFault>
     requires { header.old.words ≤ 65536 }
     ensures header { OnOk result (seen_header header.new ≡ with_line (seen_header header.old) row.now) }
     ensures fine { OnOk result (line_fault (seen_header header.old) row.now ≡ None) }

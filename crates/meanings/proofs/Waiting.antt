@@ -92,15 +92,15 @@ word_for w (Some (Sending k word)) p f h = absurd f
 word_for w (Some Halted) p f h = absurd f
 word_for w (Some (Trapped trap line)) p f h = absurd (cc)
 
--- the phases after one was set
-pub get-set_same : (ps : List Phase) (c : ℕ) (p : Phase) → c < length ps → slice_get (slice_set ps c p) c ≡ Some p
-get-set_same [] c p lt = absurd (omega arith)
-get-set_same (q ∷ ps) zero p lt = refl
-get-set_same (q ∷ ps) (suc c) p lt = get-set_same ps c p (omega arith)
+-- a list after one item was set
+pub get-set_same : {A : Type 0} (xs : List A) (c : ℕ) (x : A) → c < length xs → slice_get (slice_set xs c x) c ≡ Some x
+get-set_same [] c x lt = absurd (omega arith)
+get-set_same (y ∷ xs) zero x lt = refl
+get-set_same (y ∷ xs) (suc c) x lt = get-set_same xs c x (omega arith)
 
-pub get-set_other : (ps : List Phase) (c d : ℕ) (p : Phase) → d ≢ c → slice_get (slice_set ps c p) d ≡ slice_get ps d
-get-set_other [] c d p ne = refl
-get-set_other (q ∷ ps) zero zero p ne = absurd (ne refl)
-get-set_other (q ∷ ps) zero (suc d) p ne = refl
-get-set_other (q ∷ ps) (suc c) zero p ne = refl
-get-set_other (q ∷ ps) (suc c) (suc d) p ne = get-set_other ps c d p (λ e. ne (ap suc e))
+pub get-set_other : {A : Type 0} (xs : List A) (c d : ℕ) (x : A) → d ≢ c → slice_get (slice_set xs c x) d ≡ slice_get xs d
+get-set_other [] c d x ne = refl
+get-set_other (y ∷ xs) zero zero x ne = absurd (ne refl)
+get-set_other (y ∷ xs) zero (suc d) x ne = refl
+get-set_other (y ∷ xs) (suc c) zero x ne = refl
+get-set_other (y ∷ xs) (suc c) (suc d) x ne = get-set_other xs c d x (λ e. ne (ap suc e))

@@ -1,4 +1,2 @@
-pub mod Finishing
 pub mod Replies
-pub mod Reports
-pub mod Turns
+pub mod Finishing

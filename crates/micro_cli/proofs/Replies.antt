@@ -1,48 +1,46 @@
 -- From what is said of an input to what a call asks to be written.
-use Rattle.std.proofs.Common.{◌≡◌, ℕ, List, Option, true, refl}
-use Rattle.micro_kit.specs.Streams.{Rose, IsWhole}
-use Rattle.micro_cli.specs.declared.status.Status.{Status}
-use Rattle.micro_cli.specs.declared.status.Status.TheVariants as status
+use Rattle.std.proofs.Common.{◌≡◌, ℕ, ◌+◌, List, length, Option, None, Some, refl, inl, inr}
+use Rattle.micro_isa.specs.declared.program.Bundle.{Bundle}
+use Rattle.micro_kit.specs.Streams.{Gives, IsWhole}
+use Rattle.text_lines.specs.Faults.{At}
+use Rattle.asm_text.specs.Texts.{text_fault, Spells}
+use Rattle.tasks.specs.declared.status.Status.{Status}
+use Rattle.tasks.specs.declared.status.Status.TheVariants as status
+use Rattle.tasks.specs.declared.task.Task.{Task}
+use Rattle.tasks.specs.Tells.{Tells}
 use Rattle.micro_cli.specs.declared.command.Silence.{Silence}
 use Rattle.micro_cli.specs.declared.command.Silence.TheVariants as silence
-use Rattle.micro_cli.specs.Lines.{asks_run, input_limit}
-use Rattle.micro_cli.specs.Answers.{Says, SaysOfInput, AsksOfInput, Asks}
-use Rattle.micro_cli.specs.Calls.{FailsToRead, IsSilent}
+use Rattle.micro_cli.specs.Lines.{usage_line, input_limit, too_long_line, bad_bundle_line}
+use Rattle.micro_cli.specs.Words.{task_asked}
+use Rattle.micro_cli.specs.Answers.{Says, AsksOfInput, Asks}
+use Rattle.micro_cli.specs.Silences.{FailsToRead, IsSilent}
+
+-- what a task tells of the bundle that the input spells
+pub says_of_bundle : (task : Task) (answer : Status) (input text : List ℕ) (b : Bundle) → Spells input b → Tells task answer b text → Says task answer input text
+says_of_bundle task answer input text b spelt tells = inr (record { bundle = b; spelt = spelt; tells = tells })
+
+-- the first fault of the input
+pub says_of_fault : (task : Task) (answer : Status) (input text : List ℕ) (at : At) → text_fault input ≡ Some at → answer ≡ status.BadBundle → text ≡ bad_bundle_line at → Says task answer input text
+says_of_fault task answer input text at found answered told = inl (record { answered = answered; at = at; found = found; told = told })
 
 -- what is said of an input that was read to its end is asked for
-pub asks_of_text : (answer : Status) (left left' : Option (List ℕ)) (input text : List ℕ) → IsWhole left input left' input_limit → Says answer input text → AsksOfInput answer left left' text
-asks_of_text status.Done left left' input text whole says = record { input = input; whole = whole; says = says }
-asks_of_text status.Usage left left' input text whole says = absurd says
-asks_of_text status.BadBundle left left' input text whole says = record { input = input; whole = whole; says = says }
-asks_of_text status.NoFit left left' input text whole says = record { input = input; whole = whole; says = says }
-asks_of_text status.BadImage left left' input text whole says = absurd says
-asks_of_text status.Trapped left left' input text whole says = record { input = input; whole = whole; says = says }
-asks_of_text status.Stuck left left' input text whole says = record { input = input; whole = whole; says = says }
-asks_of_text status.Bound left left' input text whole says = record { input = input; whole = whole; says = says }
-asks_of_text status.ReadFault left left' input text whole says = absurd says
-asks_of_text status.WriteFault left left' input text whole says = absurd says
-asks_of_text status.NoMemory left left' input text whole says = absurd says
-asks_of_text status.TooLong left left' input text whole says = absurd says
-asks_of_text status.BadJournal left left' input text whole says = absurd says
-asks_of_text status.Idle left left' input text whole says = absurd says
+pub asks_of_text : (task : Task) (answer : Status) (left left' : Option (List ℕ)) (input text : List ℕ) → IsWhole left input left' input_limit → Says task answer input text → AsksOfInput task answer left left' text
+asks_of_text task answer left left' input text whole says = inr (record { input = input; whole = whole; says = says })
 
--- what is asked for an input is asked by the words that ask for a run
-pub asks_of_words : (answer : Status) (words : List (List ℕ)) (left left' : Option (List ℕ)) (text : List ℕ) → asks_run words ≡ true → AsksOfInput answer left left' text → Asks answer words left left' text
-asks_of_words status.Done words left left' text run asks = (run, asks)
-asks_of_words status.Usage words left left' text run asks = absurd (asks.says)
-asks_of_words status.BadBundle words left left' text run asks = (run, asks)
-asks_of_words status.NoFit words left left' text run asks = (run, asks)
-asks_of_words status.BadImage words left left' text run asks = (run, asks)
-asks_of_words status.Trapped words left left' text run asks = (run, asks)
-asks_of_words status.Stuck words left left' text run asks = (run, asks)
-asks_of_words status.Bound words left left' text run asks = (run, asks)
-asks_of_words status.ReadFault words left left' text run asks = (run, asks)
-asks_of_words status.WriteFault words left left' text run asks = (run, asks)
-asks_of_words status.NoMemory words left left' text run asks = (run, asks)
-asks_of_words status.TooLong words left left' text run asks = (run, asks)
-asks_of_words status.BadJournal words left left' text run asks = (run, asks)
-asks_of_words status.Idle words left left' text run asks = (run, asks)
+-- an input of more bytes than the limit
+pub asks_of_length : (task : Task) (answer : Status) (left left' : Option (List ℕ)) (text taken : List ℕ) → Gives left taken left' → length taken ≡ input_limit + 1 → answer ≡ status.TooLong → text ≡ too_long_line → AsksOfInput task answer left left' text
+asks_of_length task answer left left' text taken given above answered told =
+    inl (record { answered = answered; taken = taken; given = given; above = above; told = told })
 
-pub silent_of_words : (why : Silence) (words : List (List ℕ)) (faults faults' : ℕ) → asks_run words ≡ true → FailsToRead why faults faults' → IsSilent why words faults faults'
-silent_of_words silence.ReadFault words faults faults' run fails = (run, fails)
-silent_of_words silence.NoMemory words faults faults' run fails = tt
+-- words that mean nothing
+pub asks_of_usage : (answer : Status) (words : List (List ℕ)) (left : Option (List ℕ)) (text : List ℕ) → task_asked words ≡ None → answer ≡ status.Usage → text ≡ usage_line → Asks answer words left left text
+asks_of_usage answer words left text none answered told =
+    inl (record { answered = answered; meaningless = none; untouched = refl; told = told })
+
+-- words that ask for a task
+pub asks_of_task : (answer : Status) (words : List (List ℕ)) (left left' : Option (List ℕ)) (text : List ℕ) (task : Task) → task_asked words ≡ Some task → AsksOfInput task answer left left' text → Asks answer words left left' text
+asks_of_task answer words left left' text task asked tells = inr (record { task = task; asked = asked; tells = tells })
+
+pub silent_of_words : (why : Silence) (words : List (List ℕ)) (left left' : Option (List ℕ)) (faults faults' : ℕ) (task : Task) → task_asked words ≡ Some task → FailsToRead why left left' faults faults' → IsSilent why words left left' faults faults'
+silent_of_words silence.ReadFault words left left' faults faults' task asked fails = (task, asked, fails)
+silent_of_words silence.NoMemory words left left' faults faults' task asked fails = tt

@@ -1,5 +1,5 @@
-pub mod RoundRuns
-pub mod StatusCodes
+pub mod Words
 pub mod Lines
 pub mod Answers
 pub mod Calls
+pub mod Silences

@@ -1,31 +1,24 @@
 //! What a call asks to be written: from the words and the input to a status and a text.
 
-ghost use Rattle.std.specs.Prelude.{◌≡◌, ◌≤◌, Some, IfOk, IfErr, length, map, string_bytes};
-ghost use Rattle.micro_isa.specs.Formed.{IsFormedBundle};
-ghost use Rattle.straight_text.specs.Reading.{straight_bundle};
-ghost use Rattle.straight_text.specs.Shape.{IsStraight};
+ghost use Rattle.std.specs.Prelude.{◌≡◌, ◌≤◌, IfOk, IfErr, Some, length, map, string_bytes};
+ghost use Rattle.text_lines.specs.Faults.{At};
+ghost use Rattle.tasks.specs.Tells.{IsBounded};
+ghost use Rattle.tasks.specs.declared.status.Status.TheVariants as status;
 ghost use Rattle.micro_cli.specs.Answers.{Asks, AsksOfInput, Says};
-ghost use Rattle.micro_cli.specs.Calls.{FailsToRead, IsSilent};
-ghost use Rattle.micro_cli.specs.Lines.{asks_run, usage_line, too_long_line, bad_bundle_line, no_fit_line};
+ghost use Rattle.micro_cli.specs.Silences.{FailsToRead, IsSilent};
+ghost use Rattle.micro_cli.specs.Lines.{usage_line, too_long_line, bad_bundle_line};
 
-use crate::lines::{bad_bundle_line, no_fit_line, too_long_line, usage_line};
-use crate::runs::run_bundle;
-use crate::status::Status;
-use micro_isa::{Bundle, NoMemory};
+use crate::lines::{bad_bundle_line, too_long_line, usage_line};
+use crate::words::task_asked;
+use asm_text::read_bundle;
+use micro_isa::NoMemory;
 use micro_kit::{ReadFault, Source, read_all};
-use sliced_image::sliced_need;
 use std::alloc::Global;
-use straight_text::{StraightFault, read_straight};
+use tasks::{Reply, Status, Task, perform};
+use text_lines::{BundleFault, BundleKind};
 
-/// The input of `run` has this many bytes at most.
+/// An input has this many bytes at most.
 const INPUT_LIMIT: usize = 1_048_576;
-
-/// What is to be written, and the status once it is.
-#[derive(Debug, Drop)]
-pub(crate) struct Reply {
-    pub status: Status,
-    pub text: Vec<u8>,
-}
 
 /// Why nothing is to be written.
 #[derive(Clone, Copy, Debug, PartialEq, Eq)]
@@ -35,125 +28,101 @@ pub(crate) enum Silence {
 }
 
 /// The reply to these words and this input.
-#[tactic(auto, using(crate::proofs::Replies::asks_of_words, crate::proofs::Replies::silent_of_words))]
+#[tactic(auto, using(crate::proofs::Replies::asks_of_usage, crate::proofs::Replies::asks_of_task, crate::proofs::Replies::silent_of_words))]
 pub(crate) fn reply_to_words<I: Source>(
     alloc: Global,
     words: &[String],
     input: &mut I,
 ) -> Result<Reply, Silence>
     ensures asks { IfOk result (λ r. Asks r.status (map string_bytes words.now) (I.left input.old) (I.left input.new) r.text.items) }
-    ensures silent { IfErr result (λ why. IsSilent why (map string_bytes words.now) (I.faults input.old) (I.faults input.new)) }
+    ensures silent { IfErr result (λ why. IsSilent why (map string_bytes words.now) (I.left input.old) (I.left input.new) (I.faults input.old) (I.faults input.new)) }
 {
-    if asks_run(words) {
-        reply_to_input(alloc, input)
-    } else {
-        usage(alloc)
+    match task_asked(alloc, words) {
+        Ok(Some(task)) => match reply_to_input(alloc, task, input) {
+            Ok(reply) => Ok(reply),
+            Err(why) => Err(why),
+        },
+        Ok(None) => match usage(alloc) {
+            Ok(reply) => Ok(reply),
+            Err(NoMemory) => Err(Silence::NoMemory),
+        },
+        Err(NoMemory) => Err(Silence::NoMemory),
     }
 }
 
-fn asks_run(words: &[String]) -> bool
-    ensures { result ≡ asks_run (map string_bytes words.now) }
-{
-    match words {
-        [word] => word.as_bytes() == b"run".as_slice(),
-        _ => false,
-    }
-}
-
-fn usage(alloc: Global) -> Result<Reply, Silence>
-    ensures line { IfOk result (λ r. (r.status ≡ Status.Usage) × (r.text.items ≡ usage_line)) }
-    ensures silent { IfErr result (λ why. why ≡ Silence.NoMemory) }
+fn usage(alloc: Global) -> Result<Reply, NoMemory>
+    ensures { IfOk result (λ r. (r.status ≡ status.Usage) × (r.text.items ≡ usage_line)) }
 {
     match usage_line(alloc) {
         Ok(text) => Ok(Reply {
             status: Status::Usage,
             text,
         }),
-        Err(NoMemory) => Err(Silence::NoMemory),
+        Err(NoMemory) => Err(NoMemory),
     }
 }
 
 /// Reads the input to its end and replies to it.
-#[tactic(auto, using(crate::proofs::Replies::asks_of_text))]
-fn reply_to_input<I: Source>(alloc: Global, input: &mut I) -> Result<Reply, Silence>
-    ensures asks { IfOk result (λ r. AsksOfInput r.status (I.left input.old) (I.left input.new) r.text.items) }
-    ensures silent { IfErr result (λ why. FailsToRead why (I.faults input.old) (I.faults input.new)) }
+#[tactic(auto, using(crate::proofs::Replies::asks_of_text, crate::proofs::Replies::asks_of_length))]
+fn reply_to_input<I: Source>(alloc: Global, task: Task, input: &mut I) -> Result<Reply, Silence>
+    requires { IsBounded task }
+    ensures asks { IfOk result (λ r. AsksOfInput task r.status (I.left input.old) (I.left input.new) r.text.items) }
+    ensures silent { IfErr result (λ why. FailsToRead why (I.left input.old) (I.left input.new) (I.faults input.old) (I.faults input.new)) }
 {
     match read_all(alloc, input, INPUT_LIMIT) {
-        Ok(text) => reply_to_text(alloc, &text),
+        Ok(text) => match reply_to_text(alloc, task, &text) {
+            Ok(reply) => Ok(reply),
+            Err(NoMemory) => Err(Silence::NoMemory),
+        },
         Err(ReadFault::Failed) => Err(Silence::ReadFault),
-        Err(ReadFault::TooLong) => too_long(alloc),
+        Err(ReadFault::TooLong) => match too_long(alloc) {
+            Ok(reply) => Ok(reply),
+            Err(NoMemory) => Err(Silence::NoMemory),
+        },
         Err(ReadFault::NoMemory) => Err(Silence::NoMemory),
     }
 }
 
-fn too_long(alloc: Global) -> Result<Reply, Silence>
-    ensures line { IfOk result (λ r. (r.status ≡ Status.TooLong) × (r.text.items ≡ too_long_line)) }
-    ensures silent { IfErr result (λ why. why ≡ Silence.NoMemory) }
+fn too_long(alloc: Global) -> Result<Reply, NoMemory>
+    ensures { IfOk result (λ r. (r.status ≡ status.TooLong) × (r.text.items ≡ too_long_line)) }
 {
     match too_long_line(alloc) {
         Ok(text) => Ok(Reply {
             status: Status::TooLong,
             text,
         }),
-        Err(NoMemory) => Err(Silence::NoMemory),
+        Err(NoMemory) => Err(NoMemory),
     }
 }
 
 /// The reply to a whole input.
-fn reply_to_text(alloc: Global, text: &[u8]) -> Result<Reply, Silence>
-    requires { length text.now ≤ 2097152 }
-    ensures says { IfOk result (λ r. Says r.status text.now r.text.items) }
-    ensures silent { IfErr result (λ why. why ≡ Silence.NoMemory) }
+#[tactic(auto, using(crate::proofs::Replies::says_of_bundle, crate::proofs::Replies::says_of_fault))]
+fn reply_to_text(alloc: Global, task: Task, text: &[u8]) -> Result<Reply, NoMemory>
+    requires short { length text.now ≤ 2097152 }
+    requires bounded { IsBounded task }
+    ensures { IfOk result (λ r. Says task r.status text.now r.text.items) }
 {
-    match read_straight(alloc, text) {
-        Ok(bundle) => reply_to_bundle(alloc, text, &bundle),
-        Err(StraightFault::Later) => bad_bundle(alloc),
-        Err(StraightFault::NoMemory) => Err(Silence::NoMemory),
+    match read_bundle(alloc, text) {
+        Ok(bundle) => match perform(alloc, task, &bundle) {
+            Ok(reply) => Ok(reply),
+            Err(NoMemory) => Err(NoMemory),
+        },
+        Err(BundleFault::At { line, kind }) => match bad_bundle(alloc, line, kind) {
+            Ok(reply) => Ok(reply),
+            Err(NoMemory) => Err(NoMemory),
+        },
+        Err(BundleFault::NoMemory) => Err(NoMemory),
     }
 }
 
-fn bad_bundle(alloc: Global) -> Result<Reply, Silence>
-    ensures line { IfOk result (λ r. (r.status ≡ Status.BadBundle) × (r.text.items ≡ bad_bundle_line)) }
-    ensures silent { IfErr result (λ why. why ≡ Silence.NoMemory) }
+fn bad_bundle(alloc: Global, line: u32, kind: BundleKind) -> Result<Reply, NoMemory>
+    ensures { IfOk result (λ r. (r.status ≡ status.BadBundle) × (r.text.items ≡ bad_bundle_line (record { line = line; kind = kind }))) }
 {
-    match bad_bundle_line(alloc) {
+    match bad_bundle_line(alloc, line, kind) {
         Ok(text) => Ok(Reply {
             status: Status::BadBundle,
             text,
         }),
-        Err(NoMemory) => Err(Silence::NoMemory),
-    }
-}
-
-/// The reply to the bundle that a text spells.
-fn reply_to_bundle(alloc: Global, text: &[u8], bundle: &Bundle) -> Result<Reply, Silence>
-    requires spelt { straight_bundle text.now ≡ Some bundle.now }
-    requires formed { IsFormedBundle bundle.now }
-    requires straight { IsStraight bundle.now }
-    ensures says { IfOk result (λ r. Says r.status text.now r.text.items) }
-    ensures silent { IfErr result (λ why. why ≡ Silence.NoMemory) }
-{
-    let need = sliced_need(bundle);
-    if need <= bundle.file {
-        match run_bundle(alloc, bundle, need) {
-            Ok(reply) => Ok(reply),
-            Err(NoMemory) => Err(Silence::NoMemory),
-        }
-    } else {
-        no_fit(alloc, need, bundle.file)
-    }
-}
-
-fn no_fit(alloc: Global, need: u32, file: u32) -> Result<Reply, Silence>
-    ensures line { IfOk result (λ r. (r.status ≡ Status.NoFit) × (r.text.items ≡ no_fit_line need file)) }
-    ensures silent { IfErr result (λ why. why ≡ Silence.NoMemory) }
-{
-    match no_fit_line(alloc, need, file) {
-        Ok(text) => Ok(Reply {
-            status: Status::NoFit,
-            text,
-        }),
-        Err(NoMemory) => Err(Silence::NoMemory),
+        Err(NoMemory) => Err(NoMemory),
     }
 }

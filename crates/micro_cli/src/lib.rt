@@ -4,11 +4,9 @@
 mod call;
 mod command;
 mod lines;
-mod rounds;
-mod runs;
-mod status;
+mod words;
 #[cfg(test)]
 mod tests;
 
 pub use call::plain_call;
-pub use status::Status;
+pub use tasks::Status;

@@ -1,11 +1,12 @@
 //! The lines of refusals.
 
 ghost use Rattle.std.specs.Prelude.{◌≡◌, ◌++◌, IfOk, OnOk};
-ghost use Rattle.micro_cli.specs.Lines.{usage_line, too_long_line, bad_bundle_line, no_fit_line};
+ghost use Rattle.micro_cli.specs.Lines.{usage_line, too_long_line, bad_bundle_line};
 
 use micro_isa::NoMemory;
 use micro_kit::put_number;
 use std::alloc::Global;
+use text_lines::{BundleKind, kind_text};
 
 pub(crate) fn usage_line(alloc: Global) -> Result<Vec<u8>, NoMemory>
     ensures { IfOk result (λ line. line.items ≡ usage_line) }
@@ -22,21 +23,19 @@ pub(crate) fn too_long_line(alloc: Global) -> Result<Vec<u8>, NoMemory>
     text_of(alloc, b"toolong 1048576\n")
 }
 
-pub(crate) fn bad_bundle_line(alloc: Global) -> Result<Vec<u8>, NoMemory>
-    ensures { IfOk result (λ line. line.items ≡ bad_bundle_line) }
+pub(crate) fn bad_bundle_line(
+    alloc: Global,
+    line: u32,
+    kind: BundleKind,
+) -> Result<Vec<u8>, NoMemory>
+    ensures { IfOk result (λ text. text.items ≡ bad_bundle_line (record { line = line; kind = kind })) }
 {
-    text_of(alloc, b"bundle later\n")
-}
-
-pub(crate) fn no_fit_line(alloc: Global, need: u32, file: u32) -> Result<Vec<u8>, NoMemory>
-    ensures { IfOk result (λ line. line.items ≡ no_fit_line need file) }
-{
-    let mut line = text_of(alloc, b"nofit need ")?;
-    put_number(&mut line, need)?;
-    put_text(&mut line, b" file ")?;
-    put_number(&mut line, file)?;
-    put_text(&mut line, b"\n")?;
-    Ok(line)
+    let mut text = text_of(alloc, b"bundle ")?;
+    put_number(&mut text, line)?;
+    put_text(&mut text, b" ")?;
+    put_text(&mut text, kind_text(kind))?;
+    put_text(&mut text, b"\n")?;
+    Ok(text)
 }
 
 fn text_of(alloc: Global, bytes: &[u8]) -> Result<Vec<u8>, NoMemory>

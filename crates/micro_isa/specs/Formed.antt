@@ -1,16 +1,13 @@
 -- Which programs, settings, bundles and images are formed: what every reader gives and every later call asks for.
-use Rattle.std.specs.Prelude.{◌≡◌, ◌≢◌, ℕ, ◌+◌, ◌-◌, ◌<◌, ◌≤◌, List, [], ◌∷◌, ◌++◌, length, map, sum, Bool, true, false, ◌||◌, ◌&&◌, not, nat_lt, nat_le, nat_eq, ◌==◌, if◌then◌else◌, Option, Some, None, slice_get, All}
+use Rattle.std.specs.Prelude.{◌≡◌, ℕ, ◌+◌, ◌-◌, ◌≤◌, List, [], ◌∷◌, ◌++◌, length, map, sum, Bool, true, false, ◌||◌, ◌&&◌, not, nat_lt, nat_le, nat_eq, ◌==◌, if◌then◌else◌, Option, Some, None, slice_get}
 use Rattle.std.specs.List.{list_any, list_all, range_with_len, flat_map, filter_map}
 use Rattle.std.specs.Str.{bytes_eq}
-use Rattle.micro_isa.specs.declared.arithmetic.AluOp.{AluOp}
 use Rattle.micro_isa.specs.declared.arithmetic.AluOp.TheVariants as op
 use Rattle.micro_isa.specs.declared.instr.Instr.{Instr}
-use Rattle.micro_isa.specs.declared.instr.Instr.TheVariants.{Li, Mov, Alu, Div, Ctx, Jmp, Branch, Load, Store, Yield, Recv, Send, Halt}
-use Rattle.micro_isa.specs.declared.program.VReg.{VReg}
+use Rattle.micro_isa.specs.declared.instr.Instr.TheVariants.{Li, Mov, Alu, Div, Ctx, Jmp, Branch, Load, Store, Recv, Send, Halt}
 use Rattle.micro_isa.specs.declared.program.Line.{Line}
 use Rattle.micro_isa.specs.declared.program.Label.{Label}
 use Rattle.micro_isa.specs.declared.program.Program.{Program}
-use Rattle.micro_isa.specs.declared.program.PortUse.{PortUse}
 use Rattle.micro_isa.specs.declared.program.Channel.{Channel}
 use Rattle.micro_isa.specs.declared.program.Channel.TheVariants.{Inner, Input, Output}
 use Rattle.micro_isa.specs.declared.program.Setting.{Setting}

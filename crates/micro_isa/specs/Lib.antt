@@ -2,3 +2,4 @@ pub mod Arithmetic
 pub mod Columns
 pub mod Names
 pub mod Formed
+pub mod FormedTests

@@ -2,10 +2,16 @@
 #![tactic(auto)]
 
 mod arithmetic;
+mod formed_bundle;
+mod formed_image;
+mod formed_program;
+mod formed_setting;
 mod image;
 mod instr;
 mod list;
 mod name;
+mod named;
+mod numbers;
 mod program;
 
 pub use arithmetic::{AluOp, DivOp, Test, alu, divide, test_holds};

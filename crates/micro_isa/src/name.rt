@@ -38,6 +38,15 @@ impl Name {
         }
     }
 
+    pub fn copy(&self, alloc: Global) -> Result<Name, NoMemory>
+        ensures { IfOk result (λ copy. copy ≡ self.now) }
+    {
+        match Vec::from_slice(alloc, self.bytes.as_slice()) {
+            Ok(bytes) => Ok(Name { bytes }),
+            Err(_) => Err(NoMemory),
+        }
+    }
+
     pub fn bytes(&self) -> &[u8]
         ensures value { result.now ≡ self.now }
         ensures name { IsName self.now }
@@ -56,7 +65,7 @@ impl PartialEq for Name {
     }
 }
 
-/// Whether these bytes are a name.
+/// Whether the bytes are a name: 1 to 32 of them, first a letter or `_`, then letters, digits, `_` or `.`.
 pub fn is_name(bytes: &[u8]) -> bool
     ensures { result ≡ name_test bytes.now }
 {

@@ -23,6 +23,18 @@ pub struct Label {
     pub target: u32,
 }
 
+impl Label {
+    pub fn copy(&self, alloc: Global) -> Result<Label, NoMemory>
+        ensures { IfOk result (λ copy. copy ≡ self.now) }
+    {
+        let name = self.name.copy(alloc)?;
+        Ok(Label {
+            name,
+            target: self.target,
+        })
+    }
+}
+
 /// What one context runs. Registers are numbered as their names stand in `registers`.
 #[derive(Debug, Drop, PartialEq)]
 pub struct Program {
@@ -30,6 +42,49 @@ pub struct Program {
     pub registers: List<Name>,
     pub labels: List<Label>,
     pub code: List<Line>,
+}
+
+impl Program {
+    pub fn copy(&self, alloc: Global) -> Result<Program, NoMemory>
+        ensures { IfOk result (λ copy. copy ≡ self.now) }
+    {
+        let name = self.name.copy(alloc)?;
+        let registers = copied_names(alloc, self.registers.as_slice())?;
+        let labels = copied_labels(alloc, self.labels.as_slice())?;
+        let code = self.code.copy(alloc)?;
+        Ok(Program {
+            name,
+            registers,
+            labels,
+            code,
+        })
+    }
+}
+
+fn copied_names(alloc: Global, names: &[Name]) -> Result<List<Name>, NoMemory>
+    ensures { IfOk result (λ copies. copies ≡ names.now) }
+{
+    let mut copies = List::new(alloc);
+    for name in names {
+        let name = name.copy(alloc)?;
+        if copies.push(name).is_err() {
+            return Err(NoMemory);
+        }
+    }
+    Ok(copies)
+}
+
+fn copied_labels(alloc: Global, labels: &[Label]) -> Result<List<Label>, NoMemory>
+    ensures { IfOk result (λ copies. copies ≡ labels.now) }
+{
+    let mut copies = List::new(alloc);
+    for label in labels {
+        let label = label.copy(alloc)?;
+        if copies.push(label).is_err() {
+            return Err(NoMemory);
+        }
+    }
+    Ok(copies)
 }
 
 /// The port behind an input channel, and how many fed words the channel holds at most.
@@ -106,4 +161,33 @@ pub struct Bundle {
     pub setting: Setting,
     pub names: List<Name>,
     pub programs: List<Program>,
+}
+
+impl Bundle {
+    pub fn copy(&self, alloc: Global) -> Result<Bundle, NoMemory>
+        ensures { IfOk result (λ copy. copy ≡ self.now) }
+    {
+        let setting = self.setting.copy(alloc)?;
+        let names = copied_names(alloc, self.names.as_slice())?;
+        let programs = copied_programs(alloc, self.programs.as_slice())?;
+        Ok(Bundle {
+            file: self.file,
+            setting,
+            names,
+            programs,
+        })
+    }
+}
+
+fn copied_programs(alloc: Global, programs: &[Program]) -> Result<List<Program>, NoMemory>
+    ensures { IfOk result (λ copies. copies ≡ programs.now) }
+{
+    let mut copies = List::new(alloc);
+    for program in programs {
+        let program = program.copy(alloc)?;
+        if copies.push(program).is_err() {
+            return Err(NoMemory);
+        }
+    }
+    Ok(copies)
 }

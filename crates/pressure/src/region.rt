@@ -9,8 +9,8 @@ use flow_graph::Flow;
 use micro_isa::{Line, List, NoMemory, Program};
 use std::alloc::Global;
 
-/// The parts of a program in which no instruction but the last of a way switches, numbered by their
-/// least instructions.
+/// The connected parts of a program that are left where each switching instruction is cut off from
+/// its successors, numbered by their least instructions.
 #[derive(Debug, Drop)]
 pub struct Regions {
     numbers: List<u32>,

@@ -1,5 +1,5 @@
 -- How many contexts wait to send, as phases change.
-use Rattle.std.proofs.Common.{◌≡◌, ℕ, zero, suc, ◌+◌, ◌<◌, ◌≤◌, List, [], ◌∷◌, length, Option, Some, None, refl, sym, ap, ◌∙◌, arith, replicate, Bool, true, false, ◌++◌, length-append}
+use Rattle.std.proofs.Common.{◌≡◌, ℕ, zero, suc, ◌+◌, ◌≤◌, List, [], ◌∷◌, length, Option, Some, None, refl, ap, arith, replicate, Bool, true, false, length-append}
 use Rattle.std.specs.Prelude.{slice_get, slice_set, slice_index, nat_lt, if◌then◌else◌}
 use Rattle.world.specs.declared.event.Phase.{Phase}
 use Rattle.world.specs.declared.event.Phase.TheVariants.{Ready, Sending, Due, Trapped}

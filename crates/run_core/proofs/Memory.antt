@@ -1,9 +1,8 @@
 -- A load finds the word of an address exactly where the address is below the memory size.
-use Rattle.std.proofs.Common.{◌≡◌, ℕ, zero, suc, ◌<◌, ◌≤◌, List, [], ◌∷◌, length, Bool, true, false, Option, None, refl, ap, arith}
+use Rattle.std.proofs.Common.{◌≡◌, ℕ, zero, suc, ◌≤◌, List, [], ◌∷◌, length, Bool, true, false, None, refl, ap, arith}
 use Rattle.std.specs.Prelude.{slice_get, slice_index, nat_lt, if◌then◌else◌}
 use Rattle.std.proofs.lemmas.Bool.{ltb-true, ltb-false}
 use Rattle.std.proofs.lemmas.Option.{slice_get-get_or}
-use Rattle.world.specs.declared.event.Phase.{Phase}
 use Rattle.world.specs.declared.event.Phase.TheVariants.{Due, Trapped}
 use Rattle.world.specs.declared.event.Trap.TheVariants.{Address}
 use Rattle.run_core.specs.Sending.{due_phase}

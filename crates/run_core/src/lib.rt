@@ -3,7 +3,9 @@
 #![tactic(auto)]
 
 mod core_state;
+mod interpreter;
 mod legality;
 mod stops;
 
 pub use core_state::{Completion, RunCore};
+pub use interpreter::Interpreter;

@@ -75,10 +75,7 @@ fn told<'a>(line: &'a [u8]) -> &'a [u8]
 }
 
 /// Appends a piece that is not empty.
-fn push_piece<'a>(
-    words: &mut SmallVec<&'a [u8], 4, Global>,
-    word: &'a [u8],
-) -> Result<(), NoMemory>
+fn push_piece<'a>(words: &mut SmallVec<&'a [u8], 4, Global>, word: &'a [u8]) -> Result<(), NoMemory>
     ensures { OnOk result (map (λ w. w.now) words.new.items ≡ map (λ w. w.now) words.old.items ++ piece word.now) }
 {
     if word.is_empty() {
@@ -90,10 +87,7 @@ fn push_piece<'a>(
     }
 }
 
-fn words_of<'a>(
-    alloc: Global,
-    line: &'a [u8],
-) -> Result<SmallVec<&'a [u8], 4, Global>, NoMemory>
+fn words_of<'a>(alloc: Global, line: &'a [u8]) -> Result<SmallVec<&'a [u8], 4, Global>, NoMemory>
     ensures { IfOk result (λ v. map (λ w. w.now) v.items ≡ words_from [] line.now) }
 {
     let mut words = SmallVec::new(alloc);

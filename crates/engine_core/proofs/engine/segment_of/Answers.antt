@@ -1,6 +1,7 @@
 use Rattle.std.proofs.Common.{None, sym, ◌∙◌, subst, ◌≤◌, length}
 use Rattle.std.proofs.lemmas.Option.{slice_get-get_or}
-use Rattle.engine_core.proofs.SegmentLemmas.{goes_on, segment_is, stays_sound, phases_after, words_read, is_there}
+use Rattle.run_core.proofs.Segments.{goes_on, phases_after}
+use Rattle.engine_core.proofs.SegmentLemmas.{segment_is, stays_sound, words_read, is_placed}
 use Rattle.engine_core.proofs.engine.segment_of.Goals as goal
 
 pub returns-clause-sound : goal.returns-clause-sound
@@ -8,7 +9,7 @@ returns-clause-sound c =
     let a = c.args in
     let r = c.complete-done.result in
     let e = c.advance-ended.result in
-    let at = slice_get-get_or a.contexts.now a.context (record { at = 0; pending = None }) (is_there a.image.now a.core.now a.contexts.now a.context c.requires.sound c.requires.legal) in
+    let at = slice_get-get_or a.contexts.now a.context (record { at = 0; pending = None }) (is_placed a.image.now a.core.now a.contexts.now a.context c.requires.sound c.requires.legal) in
     stays_sound a.image.now a.core.now c.finish-end.new.self a.contexts.now a.context _ (record { at = e.at; pending = e.pending }) c.requires.sound at
     (phases_after a.core.now c.complete-done.new.self c.finish-end.new.self a.context e.steps e.why c.complete-done.ensures.core c.finish-end.ensures.core)
     (λ code h. subst (λ ws. e.at ≤ length ws) (c.words_of-words.ensures ∙ words_read a.image.now a.context code h) c.advance-ended.ensures.next)
@@ -17,7 +18,7 @@ pub returns-clause-happens : goal.returns-clause-happens
 returns-clause-happens c =
     let a = c.args in
     let r = c.complete-done.result in
-    let at = slice_get-get_or a.contexts.now a.context _ (is_there a.image.now a.core.now a.contexts.now a.context c.requires.sound c.requires.legal) in
+    let at = slice_get-get_or a.contexts.now a.context _ (is_placed a.image.now a.core.now a.contexts.now a.context c.requires.sound c.requires.legal) in
     segment_is a.image.now a.core.now c.complete-done.new.self c.finish-end.new.self a.file.now c.deliver-pending.new.file c.advance-ended.new.file a.contexts.now a.context c.steps_left-left.result _ c.words_of-words.result.now r.received r.sent c.deliver-pending.result c.advance-ended.result c.finish-end.result c.finish-end.ensures.end c.complete-done.ensures.gives c.complete-done.ensures.core at (sym c.words_of-words.ensures) c.deliver-pending.ensures c.steps_left-left.ensures.left c.advance-ended.ensures.ended c.finish-end.ensures.core
 
 pub returns-clause-goes_on : goal.returns-clause-goes_on

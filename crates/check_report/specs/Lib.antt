@@ -1,0 +1,4 @@
+pub mod Text
+pub mod Facts
+pub mod Checks
+pub mod Example

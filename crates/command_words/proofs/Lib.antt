@@ -1,0 +1,11 @@
+pub mod Rows
+pub mod Spelling
+pub mod Slots
+pub mod Commands
+pub mod WordSteps
+pub mod Held
+pub mod States
+pub mod Walks
+pub mod Strays
+pub mod Splits
+pub mod Laws

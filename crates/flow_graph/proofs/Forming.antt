@@ -1,0 +1,128 @@
+-- The code of a formed program is closed, so the analyses take it.
+use Rattle.std.proofs.Common.{◌≡◌, ℕ, ◌+◌, ◌-◌, ◌<◌, ◌≤◌, List, [], ◌∷◌, map, length, Option, Some, None, Bool, true, false, refl, sym, subst, ◌∙◌, inl, inr, arith}
+use Rattle.std.specs.Prelude.{◌&&◌, nat_lt, slice_get, ⊤}
+use Rattle.std.specs.List.{list_all}
+use Rattle.std.proofs.lemmas.Bool.{ltb-true, ltb-false}
+use Rattle.std.proofs.lemmas.Option.{same_Some, slice_get_within}
+use Rattle.micro_isa.specs.declared.instr.Instr.{Instr}
+use Rattle.micro_isa.specs.declared.instr.Instr.TheVariants.{Li, Mov, Alu, Div, Ctx, Jmp, Branch, Load, Store, Yield, Recv, Send, Halt}
+use Rattle.micro_isa.specs.declared.program.VReg.{VReg}
+use Rattle.micro_isa.specs.declared.program.Line.{Line}
+use Rattle.micro_isa.specs.declared.program.Program.{Program}
+use Rattle.micro_isa.specs.Columns.{next_of}
+use Rattle.micro_isa.specs.Formed.{registers_in, target_of, never_falls, all_below, option_below, IsFormedProgram}
+use Rattle.flow_graph.specs.Paths.{HasSmallRegisters, IsClosedCode}
+
+and_left : (a b : Bool) → (a && b) ≡ true → a ≡ true
+and_left true b h = refl
+and_left false b h = h
+
+and_right : (a b : Bool) → (a && b) ≡ true → b ≡ true
+and_right true b h = h
+and_right false b h = absurd (cc)
+
+-- each register of the list is below 128
+abbrev AreSmall : List VReg → Type 0
+AreSmall [] = ⊤
+AreSmall (r ∷ rs) = (r.0 < 128) × AreSmall rs
+
+small : (n : ℕ) → n ≤ 128 → (rs : List VReg) → all_below n (map (λ r. r.0) rs) ≡ true → AreSmall rs
+small n few [] h = tt
+small n few (r ∷ rs) h =
+    let rest = list_all (λ x. nat_lt x n) (map (λ r. r.0) rs) in
+    let less = ltb-true r.0 n (and_left (nat_lt r.0 n) rest h) in
+    (omega arith, small n few rs (and_right (nat_lt r.0 n) rest h))
+
+of_instr : (instr : Instr VReg) (at : ℕ) → AreSmall (registers_in instr) → HasSmallRegisters (record { instr = instr; line = at })
+of_instr (Li to n) at s = record { first = tt; second = tt; written = s.0 }
+of_instr (Mov to from) at s = record { first = s.1.0; second = tt; written = s.0 }
+of_instr (Alu op to a b) at s = record { first = s.1.0; second = s.1.1.0; written = s.0 }
+of_instr (Div op to a b) at s = record { first = s.1.0; second = s.1.1.0; written = s.0 }
+of_instr (Ctx to) at s = record { first = tt; second = tt; written = s.0 }
+of_instr (Jmp target) at s = record { first = tt; second = tt; written = tt }
+of_instr (Branch test a b target) at s = record { first = s.0; second = s.1.0; written = tt }
+of_instr (Load to address) at s = record { first = s.1.0; second = tt; written = s.0 }
+of_instr (Store address from) at s = record { first = s.0; second = s.1.0; written = tt }
+of_instr Yield at s = record { first = tt; second = tt; written = tt }
+of_instr (Recv to channel) at s = record { first = tt; second = tt; written = s.0 }
+of_instr (Send channel from) at s = record { first = s.0; second = tt; written = tt }
+of_instr Halt at s = record { first = tt; second = tt; written = tt }
+
+-- an instruction falls to the following one, or never
+falls_to : (instr : Instr VReg) (i j : ℕ) → (next_of instr i).fall ≡ Some j → (j ≡ i + 1) × (never_falls instr ≡ false)
+falls_to (Li to n) i j e = (sym (same_Some _ _ e), refl)
+falls_to (Mov to from) i j e = (sym (same_Some _ _ e), refl)
+falls_to (Alu op to a b) i j e = (sym (same_Some _ _ e), refl)
+falls_to (Div op to a b) i j e = (sym (same_Some _ _ e), refl)
+falls_to (Ctx to) i j e = (sym (same_Some _ _ e), refl)
+falls_to (Jmp target) i j e = absurd (cc)
+falls_to (Branch test a b target) i j e = (sym (same_Some _ _ e), refl)
+falls_to (Load to address) i j e = (sym (same_Some _ _ e), refl)
+falls_to (Store address from) i j e = (sym (same_Some _ _ e), refl)
+falls_to Yield i j e = (sym (same_Some _ _ e), refl)
+falls_to (Recv to channel) i j e = (sym (same_Some _ _ e), refl)
+falls_to (Send channel from) i j e = (sym (same_Some _ _ e), refl)
+falls_to Halt i j e = absurd (cc)
+
+-- an instruction jumps to its target, or never
+jumps_to : (instr : Instr VReg) (i : ℕ) → (next_of instr i).jump ≡ target_of instr
+jumps_to (Li to n) i = refl
+jumps_to (Mov to from) i = refl
+jumps_to (Alu op to a b) i = refl
+jumps_to (Div op to a b) i = refl
+jumps_to (Ctx to) i = refl
+jumps_to (Jmp target) i = refl
+jumps_to (Branch test a b target) i = refl
+jumps_to (Load to address) i = refl
+jumps_to (Store address from) i = refl
+jumps_to Yield i = refl
+jumps_to (Recv to channel) i = refl
+jumps_to (Send channel from) i = refl
+jumps_to Halt i = refl
+
+below_by : (j n : ℕ) (b : Bool) → nat_lt j n ≡ b → (n ≤ j → ⊥) → j < n
+below_by j n true e never = ltb-true j n e
+below_by j n false e never = absurd (never (ltb-false j n e))
+
+target_below : (n j : ℕ) (o : Option ℕ) → option_below n o ≡ true → o ≡ Some j → j < n
+target_below n j None h e = absurd (cc)
+target_below n j (Some k) h e = subst (λ t. t < n) (same_Some k j e) (ltb-true k n h)
+
+module _ (p : Program) (formed : IsFormedProgram p) where
+  registers_of : (i : ℕ) (line : Line) → slice_get p.code i ≡ Some line → HasSmallRegisters line
+  registers_of i line is =
+      let names = and_left (all_below (length p.registers) (map (λ r. r.0) (registers_in line.instr))) (option_below (length p.code) (target_of line.instr)) (formed.named i line is) in
+      let here = of_instr line.instr line.line (small (length p.registers) formed.registers (registers_in line.instr) names) in
+      record { first = here.first; second = here.second; written = here.written }
+
+  target_within : (i j : ℕ) (line : Line) → slice_get p.code i ≡ Some line → (next_of line.instr i).jump ≡ Some j → j < length p.code
+  target_within i j line is e =
+      let both = formed.named i line is in
+      let names = all_below (length p.registers) (map (λ r. r.0) (registers_in line.instr)) in
+      target_below (length p.code) j (target_of line.instr) (and_right names (option_below (length p.code) (target_of line.instr)) both)
+      (sym (jumps_to line.instr i) ∙ e)
+
+  -- the last instruction does not fall
+  last_stops : (i : ℕ) (line : Line) → slice_get p.code i ≡ Some line → never_falls line.instr ≡ false → length p.code ≤ i + 1 → ⊥
+  last_stops i line is falls past =
+      let inside = slice_get_within p.code i line is in
+      let last : length p.code - 1 ≡ i = omega arith in
+      let stops = formed.ends line (subst (λ k. slice_get p.code k ≡ Some line) (sym last) is) in
+      absurd (cc)
+
+  fall_within : (i j : ℕ) (line : Line) → slice_get p.code i ≡ Some line → (next_of line.instr i).fall ≡ Some j → j < length p.code
+  fall_within i j line is e =
+      let way = falls_to line.instr i j e in
+      below_by j (length p.code) (nat_lt j (length p.code)) refl (λ past. last_stops i line is way.1 (let same = way.0 in omega arith))
+
+  -- the code of a formed program is closed
+  pub closed_code : IsClosedCode p.code
+  closed_code = record {
+    some = formed.some;
+    few = formed.few;
+    registers = registers_of;
+    closed = λ i j edge. elim edge.2 [
+      | inl fall ↦ fall_within i j edge.0 edge.1 fall
+      | inr jump ↦ target_within i j edge.0 edge.1 jump
+    ];
+  }

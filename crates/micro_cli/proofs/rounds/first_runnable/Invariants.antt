@@ -1,9 +1,0 @@
-use Rattle.std.proofs.Common.{◌≡◌, ◌-◌}
-use Rattle.std.specs.Prelude.{find}
-use Rattle.std.specs.List.{range_with_len}
-use Rattle.meanings.specs.Core.{is_runnable}
-use Rattle.micro_cli.proofs.rounds.first_runnable.Given as goal
-
-abbrev pub invariant-contexts : goal.invariant-contexts
-invariant-contexts l =
-    find (is_runnable l.engine.core) (range_with_len l.context (l.to - l.context)) ≡ find (is_runnable l.engine.core) (range_with_len l.from (l.to - l.from))

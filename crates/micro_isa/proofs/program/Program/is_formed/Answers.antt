@@ -1,0 +1,6 @@
+use Rattle.std.proofs.Common.{sym, ◌∙◌}
+use Rattle.micro_isa.proofs.Deciding.{Decides-program}
+use Rattle.micro_isa.proofs.program.Program.is_formed.Goals as goal
+
+pub returns : goal.returns
+returns c = (λ h. (Decides-program c.args.self.now).0 (sym c.passes.ensures ∙ h), λ f. c.passes.ensures ∙ (Decides-program c.args.self.now).1 f)

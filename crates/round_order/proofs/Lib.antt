@@ -1,0 +1,3 @@
+pub mod Unplugging
+pub mod Rounds
+pub mod Starts

@@ -1,0 +1,202 @@
+-- Unplugging one port after another at the opening of a run.
+use Rattle.std.proofs.Common.{◌≡◌, ◌≢◌, ℕ, zero, suc, ◌+◌, ◌-◌, ◌<◌, ◌≤◌, List, [], ◌∷◌, ◌++◌, length, Bool, true, false, Option, Some, None, refl, sym, ap, ◌∙◌, subst, arith, inl, inr}
+use Rattle.std.specs.Prelude.{slice_get, ◌||◌, ◌&&◌, if◌then◌else◌}
+use Rattle.std.specs.List.{list_any}
+use Rattle.std.proofs.lemmas.Bool.{cases_eq, cases_lt}
+use Rattle.std.proofs.lemmas.List.{append-nil}
+use Rattle.world.specs.declared.event.Event.TheVariants.{Unplug}
+use Rattle.world.specs.declared.event.Seen.TheVariants as seen
+use Rattle.world.specs.declared.event.Entry.{Entry}
+use Rattle.world.specs.declared.event.Entry.TheVariants.{Unplugged}
+use Rattle.world.specs.declared.event.End.{End}
+use Rattle.world.specs.declared.event.Illegal.TheVariants as illegal
+use Rattle.world.specs.Channels.{ChannelState, without_port, is_incoming}
+use Rattle.world.specs.WorldState.{WorldState, holds_at, is_plugged, changed_at, after_unplug, is_open_input, has_open_input}
+use Rattle.meanings.specs.Core.{Core, illegal_of, illegal_at_port}
+use Rattle.meanings.specs.Events.{Side, Moment, happens, unless_illegal, step}
+use Rattle.meanings.specs.Entries.{LeadsTo}
+use Rattle.meanings.specs.Rounds.{InRoundOrder, last_of}
+use Rattle.meanings.proofs.Histories.{leads_more, order_more, last_of-append}
+use Rattle.round_order.specs.Openings.{is_ported, unplugs, unplugs_below, most_channels, IsOpening, IsUnplugged}
+use Rattle.round_order.specs.Journals.{UnpluggedBy, UnpluggedAt, IsOpened, IsJournalOn}
+use Rattle.round_order.specs.RoundRuns.{IsRoundRun}
+
+legal_by : (o : Option ChannelState) → holds_at (λ ch. ch.plugged) o ≡ true → holds_at (λ ch. ch.ported) o ≡ true → illegal_at_port (λ ch. ch.ported) (λ ch. None) o ≡ None
+legal_by None plugged ported = absurd (cc)
+legal_by (Some ch) plugged ported =
+    ap (λ b. if b then (if ch.plugged then None else Some illegal.Unplugged) else Some illegal.NoPort) ported
+    ∙ ap (λ b. if b then None else Some illegal.Unplugged) plugged
+
+-- a port that is plugged can be unplugged
+pub unplug_is_legal : (core : Core) (k : ℕ) → core.over ≡ false → is_plugged core.world k ≡ true → is_ported core.world k ≡ true → illegal_of core (Unplug k) ≡ None
+unplug_is_legal core k goes plugged ported =
+    ap (λ b. if b then Some illegal.Over else illegal_at_port (λ ch. ch.ported) (λ ch. None) (slice_get core.world.channels k)) goes
+    ∙ legal_by (slice_get core.world.channels k) plugged ported
+
+-- the channels behind the first one
+under : (ch : ChannelState) (chs : List ChannelState) (k : ℕ) (o : Option ChannelState) → changed_at without_port (ch ∷ chs) (suc k) o ≡ ch ∷ changed_at without_port chs k o
+under ch chs k None = refl
+under ch chs k (Some x) = refl
+
+abbrev unplugged_in : List ChannelState → ℕ → List ChannelState
+unplugged_in chs k = changed_at without_port chs k (slice_get chs k)
+
+other_stays : (test : ChannelState → Bool) (chs : List ChannelState) (k j : ℕ) → j ≢ k → holds_at test (slice_get (unplugged_in chs k) j) ≡ holds_at test (slice_get chs j)
+other_stays test [] k j ne = refl
+other_stays test (ch ∷ chs) zero zero ne = absurd (ne refl)
+other_stays test (ch ∷ chs) zero (suc j) ne = refl
+other_stays test (ch ∷ chs) (suc k) zero ne = ap (λ l. holds_at test (slice_get l 0)) (under ch chs k (slice_get chs k))
+other_stays test (ch ∷ chs) (suc k) (suc j) ne =
+    ap (λ l. holds_at test (slice_get l (suc j))) (under ch chs k (slice_get chs k)) ∙ other_stays test chs k j (λ e. ne (ap suc e))
+
+plug_goes : (chs : List ChannelState) (k : ℕ) → holds_at (λ ch. ch.plugged) (slice_get (unplugged_in chs k) k) ≡ false
+plug_goes [] k = refl
+plug_goes (ch ∷ chs) zero = refl
+plug_goes (ch ∷ chs) (suc k) = ap (λ l. holds_at (λ x. x.plugged) (slice_get l (suc k))) (under ch chs k (slice_get chs k)) ∙ plug_goes chs k
+
+port_stays : (chs : List ChannelState) (k j : ℕ) → holds_at (λ ch. ch.ported) (slice_get (unplugged_in chs k) j) ≡ holds_at (λ ch. ch.ported) (slice_get chs j)
+port_stays [] k j = refl
+port_stays (ch ∷ chs) zero zero = refl
+port_stays (ch ∷ chs) zero (suc j) = refl
+port_stays (ch ∷ chs) (suc k) zero = ap (λ l. holds_at (λ x. x.ported) (slice_get l 0)) (under ch chs k (slice_get chs k))
+port_stays (ch ∷ chs) (suc k) (suc j) = ap (λ l. holds_at (λ x. x.ported) (slice_get l (suc j))) (under ch chs k (slice_get chs k)) ∙ port_stays chs k j
+
+length_stays : (chs : List ChannelState) (k : ℕ) → length (unplugged_in chs k) ≡ length chs
+length_stays [] k = refl
+length_stays (ch ∷ chs) zero = refl
+length_stays (ch ∷ chs) (suc k) = ap length (under ch chs k (slice_get chs k)) ∙ ap suc (length_stays chs k)
+
+-- what is plugged after a port was unplugged was so before, and is another
+plugged_before : (w : WorldState) (k j : ℕ) → is_plugged (after_unplug w k) j ≡ true → (j ≢ k) × (is_plugged w j ≡ true)
+plugged_before w k j h = elim (cases_eq j k) [
+  | inl e ↦ (let gone : is_plugged (after_unplug w k) j ≡ false = ap (is_plugged (after_unplug w k)) e ∙ plug_goes w.channels k in absurd (cc))
+  | inr ne ↦ (ne, sym (other_stays (λ ch. ch.plugged) w.channels k j ne) ∙ h)
+]
+
+-- the opening itself
+pub at_start : (core : Core) → IsOpening core → IsUnplugged core.world 0 core
+at_start core opening = record {
+  goes = opening.goes;
+  few = opening.few;
+  ports = opening.ports;
+  closed = λ j lt. absurd (omega (arith, lt));
+  rest = λ j le. refl;
+}
+
+-- one port more is unplugged
+one_more : (w : WorldState) (k : ℕ) (now after : Core) → IsUnplugged w k now → after ≡ record now { world = after_unplug now.world k } → IsUnplugged w (suc k) after
+one_more w k now after so is = subst (IsUnplugged w (suc k)) (sym is) (record {
+  goes = so.goes;
+  few = subst (λ n. n ≤ most_channels) (sym (length_stays now.world.channels k)) so.few;
+  ports = λ j h. port_stays now.world.channels k j ∙ so.ports j (plugged_before now.world k j h).1;
+  closed = λ j lt. elim (cases_eq j k) [
+    | inl e ↦ ap (is_plugged (after_unplug now.world k)) e ∙ plug_goes now.world.channels k
+    | inr ne ↦ other_stays (λ ch. ch.plugged) now.world.channels k j ne ∙ so.closed j (omega (arith, lt, ne))
+  ];
+  rest = λ j le. other_stays (λ ch. ch.plugged) now.world.channels k j (λ e. omega (arith, le, e)) ∙ so.rest j (omega (arith, le));
+})
+
+-- nothing was plugged there
+none_there : (w : WorldState) (k : ℕ) (now : Core) → IsUnplugged w k now → is_plugged now.world k ≡ false → IsUnplugged w (suc k) now
+none_there w k now so free = record {
+  goes = so.goes;
+  few = so.few;
+  ports = so.ports;
+  closed = λ j lt. elim (cases_eq j k) [
+    | inl e ↦ ap (is_plugged now.world) e ∙ free
+    | inr ne ↦ so.closed j (omega (arith, lt, ne))
+  ];
+  rest = λ j le. so.rest j (omega (arith, le));
+}
+
+-- no word comes from outside where no port is plugged
+no_plug : (chs : List ChannelState) → ((j : ℕ) → holds_at (λ ch. ch.plugged) (slice_get chs j) ≡ false) → list_any is_open_input chs ≡ false
+no_plug [] h = refl
+no_plug (ch ∷ chs) h = ap (λ b. b || list_any is_open_input chs) (none (is_incoming ch.kind) ch.plugged (h 0)) ∙ no_plug chs (λ j. h (suc j))
+  where
+    none : (a b : Bool) → b ≡ false → (a && b) ≡ false
+    none true b e = e
+    none false b e = refl
+
+past_all : (chs : List ChannelState) (n j : ℕ) → length chs ≤ n → n ≤ j → holds_at (λ ch. ch.plugged) (slice_get chs j) ≡ false
+past_all [] n j few le = refl
+past_all (ch ∷ chs) n zero few le = absurd (omega (arith, few, le))
+past_all (ch ∷ chs) n (suc j) few le = past_all chs j j (omega (arith, few, le)) (omega arith)
+
+-- there is nothing to unplug behind the last channel
+none_behind : (w : WorldState) (k : ℕ) → unplugs_below w (length w.channels + k) ≡ unplugs w
+none_behind w zero = let e : length w.channels + zero ≡ length w.channels = omega arith in ap (unplugs_below w) e
+none_behind w (suc k) =
+    let e : length w.channels + suc k ≡ suc (length w.channels + k) = omega arith in
+    ap (unplugs_below w) e
+    ∙ ap (λ b. unplugs_below w (length w.channels + k) ++ (if b then Unplugged (length w.channels + k) ∷ [] else [])) (past_all w.channels (length w.channels) (length w.channels + k) (omega arith) (omega arith))
+    ∙ append-nil (unplugs_below w (length w.channels + k))
+    ∙ none_behind w k
+
+all_unplugs : (w : WorldState) (n : ℕ) → length w.channels ≤ n → unplugs_below w n ≡ unplugs w
+all_unplugs w n le =
+    let e : n ≡ length w.channels + (n - length w.channels) = omega (arith, le) in
+    ap (unplugs_below w) e ∙ none_behind w (n - length w.channels)
+
+-- the opening's unplugging and the turns behind it are one run
+pub whole_run : {X : Type 0} (side : Side X) (before middle after : Moment X) (opening entries : List Entry) (end : End) → IsOpening before.core → IsOpened side before most_channels middle opening → IsJournalOn side middle after opening entries end → IsRoundRun side before after entries end
+whole_run side before middle after opening entries end begins opened on =
+    let whole = on.on before opened.legal opened.order opened.none in
+    record {
+      legal = whole.0;
+      rest = on.rest;
+      begins = on.begins ∙ ap (λ l. l ++ on.rest) (opened.told ∙ all_unplugs before.core.world most_channels begins.few);
+      order = whole.1;
+      ended = on.ended;
+    }
+
+-- where each port was unplugged, no word comes from outside
+pub all_closed : (w : WorldState) (now : Core) → IsUnplugged w most_channels now → has_open_input now.world ≡ false
+all_closed w now so = no_plug now.world.channels (λ j. elim (cases_lt j most_channels) [
+  | inl lt ↦ so.closed j lt
+  | inr le ↦ past_all now.world.channels most_channels j so.few le
+])
+
+pub was_unplugged : {X : Type 0} (side : Side X) (before after : Moment X) (k : ℕ) (es es' : List Entry) → is_plugged before.core.world k ≡ true → happens side before (Unplug k) ≡ (after, seen.Unplugged) → es' ≡ es ++ Unplugged k ∷ [] → UnpluggedAt side before after k es es'
+was_unplugged side before after k es es' plugged happened told =
+    subst (λ b. UnpluggedBy b side before after k es es') (sym plugged) (happened, told)
+
+pub was_not_plugged : {X : Type 0} (side : Side X) (before : Moment X) (k : ℕ) (es : List Entry) → is_plugged before.core.world k ≡ false → UnpluggedAt side before before k es es
+was_not_plugged side before k es free = subst (λ b. UnpluggedBy b side before before k es es) (sym free) (refl, refl)
+
+-- the opening, before the first channel was looked at
+pub opened_at_start : {X : Type 0} (side : Side X) (before : Moment X) → IsOpening before.core → IsOpened side before 0 before []
+opened_at_start side before opening = record { unplugged = at_start before.core opening; legal = refl; order = tt; told = refl; none = refl }
+
+one_up : (k : ℕ) → suc k ≡ k + 1
+one_up k = omega arith
+
+-- the entries of the channels below the next one
+told_more : (w : WorldState) (k : ℕ) (b : Bool) (es : List Entry) → es ≡ unplugs_below w k → is_plugged w k ≡ b → es ++ (if b then Unplugged k ∷ [] else []) ≡ unplugs_below w (suc k)
+told_more w k b es told is =
+    ap (λ l. l ++ (if b then Unplugged k ∷ [] else [])) told ∙ ap (λ x. unplugs_below w k ++ (if x then Unplugged k ∷ [] else [])) (sym is)
+
+opened_by : {X : Type 0} (side : Side X) (first before after : Moment X) (k : ℕ) (es es' : List Entry) (b : Bool) → IsOpened side first k before es → is_plugged before.core.world k ≡ b → UnpluggedBy b side before after k es es' → IsOpened side first (suc k) after es'
+opened_by {X} side first before after k es es' true so plugged did =
+    let legal = unplug_is_legal before.core k so.unplugged.goes plugged (so.unplugged.ports k plugged) in
+    let goes : step side before (Unplug k) ≡ Some (after, seen.Unplugged) =
+    ap (λ o. unless_illegal o (happens side before (Unplug k))) legal ∙ ap Some did.0
+    in record {
+      unplugged = one_more first.core.world k before.core after.core so.unplugged (sym (ap (λ p. p.0.core) did.0));
+      legal = subst (λ l. LeadsTo side first l after) (sym did.1) (leads_more side first before after es (Unplugged k) seen.Unplugged so.legal goes refl);
+      order = subst (λ l. InRoundOrder side first None l) (sym did.1) (order_more side first before None es (Unplugged k) so.legal so.order tt);
+      told = did.1 ∙ told_more first.core.world k true es so.told (sym (so.unplugged.rest k (omega arith)) ∙ plugged);
+      none = ap (last_of None) did.1 ∙ last_of-append None es (Unplugged k) ∙ so.none;
+    }
+opened_by {X} side first before after k es es' false so free did = record {
+  unplugged = subst (λ m. IsUnplugged first.core.world (suc k) m.core) (sym did.0) (none_there first.core.world k before.core so.unplugged free);
+  legal = subst (λ l. LeadsTo side first l after) (sym did.1) (subst (λ m. LeadsTo side first es m) (sym did.0) so.legal);
+  order = subst (λ l. InRoundOrder side first None l) (sym did.1) so.order;
+  told = did.1 ∙ sym (append-nil es) ∙ told_more first.core.world k false es so.told (sym (so.unplugged.rest k (omega arith)) ∙ free);
+  none = ap (last_of None) did.1 ∙ so.none;
+}
+
+-- one channel more
+pub opened_more : {X : Type 0} (side : Side X) (first before after : Moment X) (k : ℕ) (es es' : List Entry) → IsOpened side first k before es → UnpluggedAt side before after k es es' → IsOpened side first (k + 1) after es'
+opened_more side first before after k es es' so did =
+    subst (λ n. IsOpened side first n after es') (one_up k) (opened_by side first before after k es es' (is_plugged before.core.world k) so refl did)

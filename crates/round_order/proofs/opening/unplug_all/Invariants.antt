@@ -1,0 +1,8 @@
+use Rattle.std.proofs.Common.{◌≡◌}
+use Rattle.round_order.specs.Journals.{IsOpened}
+use Rattle.round_order.proofs.opening.unplug_all.Given as goal
+
+abbrev pub invariant-channels : goal.invariant-channels
+invariant-channels g l =
+    (g.I.Interpreter.side l.run ≡ g.I.Interpreter.side l.fn.run)
+    × IsOpened (g.I.Interpreter.side l.fn.run) (g.I.Interpreter.moment l.fn.run) l.channel (g.I.Interpreter.moment l.run) l.entries.items

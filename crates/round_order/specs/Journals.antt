@@ -1,0 +1,64 @@
+-- What the journal of a run in round order has come to, turn by turn.
+use Rattle.std.specs.Prelude.{◌≡◌, ℕ, ◌<◌, List, [], ◌∷◌, ◌++◌, Bool, true, false, Option, Some, None}
+use Rattle.std.specs.Option.{ForSome}
+use Rattle.world.specs.declared.event.Event.TheVariants.{Unplug}
+use Rattle.world.specs.declared.event.Entry.{Entry}
+use Rattle.world.specs.declared.event.Entry.TheVariants.{Ran, Unplugged}
+use Rattle.world.specs.declared.event.Seen.{Seen}
+use Rattle.world.specs.declared.event.Seen.TheVariants as seen
+use Rattle.world.specs.declared.event.SegmentEnd.{SegmentEnd}
+use Rattle.world.specs.declared.event.End.{End}
+use Rattle.world.specs.WorldState.{has_open_input, is_plugged}
+use Rattle.meanings.specs.Core.{ending_of}
+use Rattle.meanings.specs.Events.{Side, Moment, happens, step}
+use Rattle.meanings.specs.Entries.{event_of, entry_seen, LeadsTo}
+use Rattle.meanings.specs.Rounds.{InRoundOrder, last_of}
+use Rattle.round_order.specs.Openings.{IsUnplugged, unplugs_below}
+
+-- an event that may happen, and the entry that tells it
+pub record IsTurn {X : Type 0} (side : Side X) (before after : Moment X) (e : Entry) : Type 0 where
+  pub seen : Seen
+  pub happened : step side before (event_of e) ≡ Some (after, seen)
+  pub told : entry_seen e seen ≡ e
+
+-- a channel's port was unplugged and an entry tells it; or it was not plugged, and nothing changed
+abbrev pub UnpluggedBy : {X : Type 0} → Bool → Side X → Moment X → Moment X → ℕ → List Entry → List Entry → Type 0
+UnpluggedBy true side before after k entries entries' =
+    (happens side before (Unplug k) ≡ (after, seen.Unplugged)) × (entries' ≡ entries ++ Unplugged k ∷ [])
+UnpluggedBy false side before after k entries entries' = (after ≡ before) × (entries' ≡ entries)
+
+abbrev pub UnpluggedAt : {X : Type 0} → Side X → Moment X → Moment X → ℕ → List Entry → List Entry → Type 0
+UnpluggedAt side before after k entries entries' = UnpluggedBy (is_plugged before.core.world k) side before after k entries entries'
+
+-- from the opening with the ports below `k` unplugged
+pub record IsOpened {X : Type 0} (side : Side X) (before : Moment X) (k : ℕ) (now : Moment X) (entries : List Entry) : Type 0 where
+  pub unplugged : IsUnplugged before.core.world k now.core
+  pub legal : LeadsTo side before entries now
+  pub order : InRoundOrder side before None entries
+  pub told : entries ≡ unplugs_below before.core.world k
+  pub none : last_of None entries ≡ None
+
+-- what leads to a moment goes on with turns in round order to another
+abbrev pub GoesOnTo : {X : Type 0} → Side X → Moment X → Moment X → List Entry → List Entry → Type 0
+GoesOnTo {X} side before now opening entries =
+    (first : Moment X) → LeadsTo side first opening before → InRoundOrder side first None opening → last_of None opening ≡ None → LeadsTo side first entries now × InRoundOrder side first None entries
+
+-- turns that go on behind the entries of an opening: the journal so far, and the last context that ran
+pub record IsRunSoFar {X : Type 0} (side : Side X) (before now : Moment X) (opening entries : List Entry) (last : Option ℕ) : Type 0 where
+  pub closed : has_open_input now.core.world ≡ false
+  pub on : GoesOnTo side before now opening entries
+  pub latest : last_of None opening ≡ None → last_of None entries ≡ last
+  pub small : ForSome last (λ c. c < 8)
+  pub rest : List Entry
+  pub begins : entries ≡ opening ++ rest
+
+-- behind the entries of an opening: a journal goes on with turns in round order to an ending
+pub record IsJournalOn {X : Type 0} (side : Side X) (before after : Moment X) (opening entries : List Entry) (end : End) : Type 0 where
+  pub on : GoesOnTo side before after opening entries
+  pub rest : List Entry
+  pub begins : entries ≡ opening ++ rest
+  pub ended : ending_of after.core ≡ Some end
+
+-- an entry tells a segment of this context
+abbrev pub RanAs : ℕ → Entry → Type 0
+RanAs c e = (steps : ℕ) × (end : SegmentEnd) × (e ≡ Ran c steps end)

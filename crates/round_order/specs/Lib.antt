@@ -1,0 +1,3 @@
+pub mod Openings
+pub mod Journals
+pub mod RoundRuns

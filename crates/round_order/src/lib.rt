@@ -1,0 +1,8 @@
+//! Runs in round order: the opening's ports are unplugged, and then each context has its turn.
+#![tactic(auto)]
+
+mod opening;
+mod order;
+mod runs;
+
+pub use runs::{EngineRun, SourceRounds, run_engine, run_source};

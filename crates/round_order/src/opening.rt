@@ -1,0 +1,57 @@
+//! The ports at the opening of a run: none was handed in, so each is unplugged.
+
+ghost use Rattle.std.specs.Prelude.{◌≡◌, ◌+◌, ◌<◌, IfOk, OnOk, [], ◌∷◌, ◌++◌, None, true, false};
+ghost use Rattle.world.specs.WorldState.{is_plugged};
+ghost use Rattle.round_order.specs.Openings.{IsOpening, most_channels, is_ported};
+ghost use Rattle.round_order.specs.Journals.{IsOpened, UnpluggedAt};
+
+use micro_isa::NoMemory;
+use run_core::Interpreter;
+use std::alloc::Global;
+use world::Entry;
+
+/// A run has this many channels at most.
+const MOST_CHANNELS: u8 = 16;
+
+/// Unplugs each port that is plugged, in channel order, and tells it.
+pub(crate) fn unplug_all<I: Interpreter>(alloc: Global, run: &mut I) -> Result<Vec<Entry>, NoMemory>
+    requires { IsOpening (I.moment run.old).core }
+    ensures side { I.side run.new ≡ I.side run.old }
+    ensures opened { IfOk result (λ entries. IsOpened (I.side run.old) (I.moment run.old) most_channels (I.moment run.new) entries.items) }
+{
+    let mut entries = Vec::new(alloc);
+    'channels: for channel in 0..MOST_CHANNELS {
+        unplug_at(&mut entries, run, channel)?;
+    }
+    Ok(entries)
+}
+
+/// Unplugs a channel's port, where it is plugged, and tells it.
+#[tactic(auto, using(crate::proofs::Unplugging::unplug_is_legal, crate::proofs::Unplugging::was_unplugged, crate::proofs::Unplugging::was_not_plugged))]
+fn unplug_at<I: Interpreter>(
+    entries: &mut Vec<Entry>,
+    run: &mut I,
+    channel: u8,
+) -> Result<(), NoMemory>
+    requires goes { (I.moment run.old).core.over ≡ false }
+    requires ported { is_plugged (I.moment run.old).core.world channel ≡ true → is_ported (I.moment run.old).core.world channel ≡ true }
+    ensures side { I.side run.new ≡ I.side run.old }
+    ensures unplugged { OnOk result (UnpluggedAt (I.side run.old) (I.moment run.old) (I.moment run.new) channel entries.old.items entries.new.items) }
+{
+    if run.plugged(channel) {
+        run.unplug(channel);
+        note(entries, Entry::Unplugged { channel })
+    } else {
+        Ok(())
+    }
+}
+
+/// Appends an entry to a journal.
+pub(crate) fn note(entries: &mut Vec<Entry>, entry: Entry) -> Result<(), NoMemory>
+    ensures { OnOk result (entries.new.items ≡ entries.old.items ++ entry ∷ []) }
+{
+    match entries.push(entry) {
+        Ok(()) => Ok(()),
+        Err(_) => Err(NoMemory),
+    }
+}

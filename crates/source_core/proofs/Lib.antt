@@ -1,0 +1,4 @@
+pub mod Putting
+pub mod StepLemmas
+pub mod SegmentLemmas
+pub mod Opening

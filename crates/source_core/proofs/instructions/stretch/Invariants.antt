@@ -1,0 +1,14 @@
+use Rattle.std.proofs.Common.{◌≡◌, ◌-◌, ◌≤◌, length}
+use Rattle.source_core.specs.Steps.{later, context_at}
+use Rattle.meanings.specs.Source.{stretch}
+use Rattle.source_core.proofs.instructions.stretch.Given as goal
+
+abbrev pub invariant-steps : goal.invariant-steps
+invariant-steps l =
+    (l.steps ≤ l.left)
+    × (l.at ≤ length l.code)
+    × (length l.registers ≡ length l.initial.registers)
+    × (later l.steps (stretch l.context l.code (l.left - l.steps) (context_at l.at l.registers l.pending)) ≡ stretch l.context l.code l.left (context_at l.fn.at l.fn.registers l.pending))
+
+abbrev pub decreases-steps : goal.decreases-steps
+decreases-steps l = l.left - l.steps

@@ -1,0 +1,204 @@
+ghost use Rattle.std.specs.Prelude.{◌≡◌, ◌≤◌, IfOk, IfErr, None, Some, length, map};
+ghost use Rattle.micro_isa.specs.Formed.{IsFormedBundle};
+ghost use Rattle.world.specs.declared.event.Event.TheVariants.{Run as RunOf, Feed as FeedOf, Unplug as UnplugOf};
+ghost use Rattle.world.specs.declared.event.Seen.TheVariants.{Ran as RanOf, Fed as FedOf, Unplugged as UnpluggedOf};
+ghost use Rattle.meanings.specs.Core.{illegal_of, is_runnable, ending_of, shown_core};
+ghost use Rattle.meanings.specs.Events.{happens, step};
+ghost use Rattle.meanings.specs.Source.{Contexts, code_of, source_side, source_open};
+ghost use Rattle.run_core.specs.Segments.{GoesOn};
+ghost use Rattle.source_core.specs.SourceState.{moment_of, start_of, IsSound};
+
+use crate::context::{ContextState, go_on};
+use crate::registers::Registers;
+use micro_isa::{Bundle, Line, NoMemory, Program};
+use run_core::{Interpreter, RunCore};
+use std::alloc::Global;
+use std::marker::Model;
+use world::{End, Event, Illegal, Seen, Segment, View};
+
+/// A run of a bundle. Opening it takes all the memory that it will need; only `view` takes more.
+#[derive(Drop)]
+pub struct SourceRun {
+    bundle: Bundle,
+    core: RunCore,
+    contexts: Vec<ContextState>,
+}
+
+impl Model for SourceRun {
+    ghost use Rattle.source_core.specs.SourceState.{SourceState, IsSound};
+
+    ghost Value = { SourceState };
+
+    ghost view = { λ s. record { bundle = s.bundle; core = s.core; contexts = s.contexts.items } };
+
+    ghost invariant = { λ s. IsSound s.bundle s.core s.contexts.items };
+}
+
+impl SourceRun {
+    /// The opening of a formed bundle, to be run for at most `bound` steps. The run keeps a copy of
+    /// the bundle.
+    pub fn open(alloc: Global, bundle: &Bundle, bound: u32) -> Result<SourceRun, NoMemory>
+        requires formed { IsFormedBundle bundle.now }
+        requires bound { bound ≤ 1048576 }
+        ensures bundle { IfOk result (λ run. run.bundle ≡ bundle.now) }
+        ensures opening { IfOk result (λ run. moment_of run ≡ source_open bundle.now bound) }
+    {
+        let core = RunCore::open(alloc, &bundle.setting, bundle.programs.len(), bound)?;
+        let contexts = starts(alloc, bundle.programs.as_slice())?;
+        let bundle = bundle.copy(alloc)?;
+        Ok(SourceRun {
+            bundle,
+            core,
+            contexts,
+        })
+    }
+
+    /// The first cause for which an event may not happen.
+    pub fn illegal(&self, event: Event) -> Option<Illegal>
+        ensures { result ≡ illegal_of self.now.core event }
+    {
+        self.core.illegal(event)
+    }
+
+    /// One event. An illegal one changes nothing and is answered by its first cause.
+    pub fn event(&mut self, event: Event) -> Result<Seen, Illegal>
+        ensures bundle { self.new.bundle ≡ self.old.bundle }
+        ensures legal { IfOk result (λ seen. step (source_side self.old.bundle) (moment_of self.old) event ≡ Some (moment_of self.new, seen)) }
+        ensures illegal { IfErr result (λ why. (illegal_of self.old.core event ≡ Some why) × (self.new ≡ self.old)) }
+    {
+        match self.illegal(event) {
+            Some(why) => Err(why),
+            None => Ok(self.happen(event)),
+        }
+    }
+
+    fn happen(&mut self, event: Event) -> Seen
+        requires legal { illegal_of self.old.core event ≡ None }
+        ensures bundle { self.new.bundle ≡ self.old.bundle }
+        ensures happens { happens (source_side self.old.bundle) (moment_of self.old) event ≡ (moment_of self.new, result) }
+    {
+        match event {
+            Event::Run(context) => Seen::Ran(self.segment(context)),
+            Event::Feed { channel, word } => {
+                self.core.feed(channel, word);
+                Seen::Fed
+            }
+            Event::Unplug { channel } => {
+                self.core.unplug(channel);
+                Seen::Unplugged
+            }
+        }
+    }
+
+    /// What the run shows.
+    pub fn view(&self, alloc: Global) -> Result<View, NoMemory>
+        ensures { IfOk result (λ view. view ≡ shown_core self.now.core) }
+    {
+        self.core.view(alloc)
+    }
+
+    pub fn bundle(&self) -> &Bundle
+        ensures { result.now ≡ self.now.bundle }
+    {
+        &self.bundle
+    }
+}
+
+impl Interpreter for SourceRun {
+    ghost State = { Contexts };
+
+    ghost side = { λ s. source_side s.bundle };
+
+    ghost moment = { moment_of };
+
+    fn contexts(&self) -> u32 {
+        self.contexts.len() as u32
+    }
+
+    fn runnable(&self, context: u32) -> bool {
+        self.core.is_runnable(context)
+    }
+
+    fn ending(&self) -> Option<End> {
+        self.core.ending()
+    }
+
+    fn segment(&mut self, context: u32) -> Segment
+        requires legal { illegal_of self.old.core (RunOf context) ≡ None }
+        ensures bundle { self.new.bundle ≡ self.old.bundle }
+        ensures happens { happens (source_side self.old.bundle) (moment_of self.old) (RunOf context) ≡ (moment_of self.new, RanOf result) }
+        ensures goes_on { GoesOn self.old.core self.new.core }
+    {
+        segment_of(&self.bundle, &mut self.core, &mut self.contexts, context)
+    }
+
+    fn plugged(&self, channel: u8) -> bool {
+        self.core.plugged(channel)
+    }
+
+    fn unplug(&mut self, channel: u8)
+        requires legal { illegal_of self.old.core (UnplugOf channel) ≡ None }
+        ensures bundle { self.new.bundle ≡ self.old.bundle }
+        ensures happens { happens (source_side self.old.bundle) (moment_of self.old) (UnplugOf channel) ≡ (moment_of self.new, UnpluggedOf) }
+    {
+        self.core.unplug(channel);
+    }
+}
+
+fn starts(alloc: Global, programs: &[Program]) -> Result<Vec<ContextState>, NoMemory>
+    ensures { IfOk result (λ contexts. contexts.items ≡ map start_of programs.now) }
+{
+    let mut contexts = Vec::new(alloc);
+    for program in programs {
+        let registers = Registers::zeros(alloc, program.registers.len())?;
+        let start = ContextState {
+            at: 0,
+            registers,
+            pending: None,
+        };
+        if contexts.push(start).is_err() {
+            return Err(NoMemory);
+        }
+    }
+    Ok(contexts)
+}
+
+fn segment_of(
+    bundle: &Bundle,
+    core: &mut RunCore,
+    contexts: &mut [ContextState],
+    context: u32,
+) -> Segment
+    requires sound { IsSound bundle.now core.old contexts.old }
+    requires legal { illegal_of core.old (RunOf context) ≡ None }
+    ensures sound { IsSound bundle.now core.new contexts.new }
+    ensures goes_on { GoesOn core.old core.new }
+    ensures happens { happens (source_side bundle.now) (moment_of (record { bundle = bundle.now; core = core.old; contexts = contexts.old })) (RunOf context)
+        ≡ (moment_of (record { bundle = bundle.now; core = core.new; contexts = contexts.new }), RanOf result) }
+{
+    let done = core.complete(context);
+    let left = core.steps_left();
+    let code = code_of(bundle, context);
+    let gone = go_on(
+        context,
+        code,
+        &mut contexts[context as usize],
+        done.received,
+        left,
+    );
+    let end = core.finish(context, gone.steps, gone.why);
+    Segment {
+        steps: gone.steps,
+        end,
+        sent: done.sent,
+    }
+}
+
+fn code_of(bundle: &Bundle, context: u32) -> &[Line]
+    ensures { result.now ≡ code_of bundle.now context }
+{
+    match bundle.programs.get(context as usize) {
+        Some(program) => program.code.as_slice(),
+        None => &[],
+    }
+}

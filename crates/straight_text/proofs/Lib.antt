@@ -1,9 +1,0 @@
-pub mod Forming
-pub mod Halting
-pub mod Header
-pub mod Known
-pub mod Lines
-pub mod Maps
-pub mod Numbering
-pub mod Straight
-pub mod Worked

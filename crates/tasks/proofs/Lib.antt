@@ -1,0 +1,3 @@
+pub mod Reporting
+pub mod Telling
+pub mod Worked

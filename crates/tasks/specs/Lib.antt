@@ -1,0 +1,3 @@
+pub mod StatusCodes
+pub mod Reports
+pub mod Tells

@@ -1,0 +1,55 @@
+ghost use Rattle.std.specs.Prelude.{◌≡◌, IfOk};
+ghost use Rattle.micro_isa.specs.Formed.{IsFormedBundle};
+ghost use Rattle.canonical_text.specs.Canonical.{canonical_text};
+ghost use Rattle.check_report.specs.Checks.{IsCheckOf};
+ghost use Rattle.tasks.specs.Tells.{IsBounded, Tells};
+ghost use Rattle.tasks.specs.declared.status.Status.TheVariants as status;
+
+use crate::images::run_bundle;
+use crate::sources::run_sources;
+use crate::status::Status;
+use crate::task::{Reply, Task};
+use canonical_text::print_bundle;
+use check_report::print_check;
+use micro_isa::{Bundle, NoMemory};
+use std::alloc::Global;
+
+/// Does a task with a formed bundle.
+pub fn perform(alloc: Global, task: Task, bundle: &Bundle) -> Result<Reply, NoMemory>
+    requires formed { IsFormedBundle bundle.now }
+    requires bounded { IsBounded task }
+    ensures { IfOk result (λ r. Tells task r.status bundle.now r.text.items) }
+{
+    match task {
+        Task::Run { steps } => run_bundle(alloc, bundle, steps),
+        Task::Source { steps } => run_sources(alloc, bundle, steps),
+        Task::Format => format_bundle(alloc, bundle),
+        Task::Check => check_bundle(alloc, bundle),
+    }
+}
+
+fn format_bundle(alloc: Global, bundle: &Bundle) -> Result<Reply, NoMemory>
+    requires { IsFormedBundle bundle.now }
+    ensures { IfOk result (λ r. (r.status ≡ status.Done) × (r.text.items ≡ canonical_text bundle.now)) }
+{
+    match print_bundle(alloc, bundle) {
+        Ok(text) => Ok(Reply {
+            status: Status::Done,
+            text,
+        }),
+        Err(NoMemory) => Err(NoMemory),
+    }
+}
+
+fn check_bundle(alloc: Global, bundle: &Bundle) -> Result<Reply, NoMemory>
+    requires { IsFormedBundle bundle.now }
+    ensures { IfOk result (λ r. (r.status ≡ status.Done) × IsCheckOf bundle.now r.text.items) }
+{
+    match print_check(alloc, bundle) {
+        Ok(text) => Ok(Reply {
+            status: Status::Done,
+            text,
+        }),
+        Err(NoMemory) => Err(NoMemory),
+    }
+}
