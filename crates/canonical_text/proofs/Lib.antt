@@ -1,1 +1,17 @@
+mod Bytes
+mod ContextAgain
+mod ContextLines
+mod FreeTests
+mod HeaderAgain
+mod InTurn
+mod InstructionAgain
 mod Labels
+mod Lines
+mod Plain
+mod PlainRows
+mod Tables
+mod Taken
+mod Targets
+mod TextAgain
+mod Walking
+mod Words

@@ -1,3 +1,4 @@
 pub mod Rows
 pub mod Canonical
-pub mod Views
+pub mod Typed
+pub mod Again

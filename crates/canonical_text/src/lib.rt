@@ -7,5 +7,9 @@ mod header;
 mod instruction;
 mod names;
 mod row;
+mod typed;
 
 pub use bundle::print_bundle;
+
+#[cfg(test)]
+mod tests;

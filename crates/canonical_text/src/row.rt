@@ -2,7 +2,7 @@
 
 ghost use Rattle.std.specs.Prelude.{◌≡◌, ◌++◌, OnOk};
 ghost use Rattle.canonical_text.specs.Rows.{Flush, Indented, led_by, spaced, operands_text, line_text};
-ghost use Rattle.canonical_text.specs.Views.{words_seen};
+ghost use Rattle.text_lines.specs.Tables.{words_seen};
 
 use micro_isa::NoMemory;
 

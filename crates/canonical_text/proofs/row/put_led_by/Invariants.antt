@@ -1,6 +1,6 @@
 use Rattle.std.proofs.Common.{◌≡◌, ◌++◌, take}
 use Rattle.canonical_text.specs.Rows.{led_by}
-use Rattle.canonical_text.specs.Views.{words_seen}
+use Rattle.text_lines.specs.Tables.{words_seen}
 use Rattle.canonical_text.proofs.row.put_led_by.Given as goal
 
 abbrev pub invariant-loop-word : goal.invariant-loop-word
