@@ -29,7 +29,7 @@ cut_short intended words o text taken asked rose part grew =
 -- a read that failed
 pub not_read : (words : List (List ℕ)) (o : Outside) → IsSilent silence.ReadFault words o.left o.left' o.read_faults o.read_faults' → o.wrote' ≡ o.wrote → Finishes status.ReadFault words o
 not_read words o fails silent =
-    inr (inr (inl (record { answered = refl; task = fails.0; asked = fails.1; rose = fails.2; taken = fails.3; silent = silent })))
+    inr (inr (inl (record { answered = refl; task = fails.0; asked = fails.1; rose = (fails.2).0; taken = (fails.2).1; silent = silent })))
 
 pub no_memory : (words : List (List ℕ)) (o : Outside) → o.wrote' ≡ o.wrote → Finishes status.NoMemory words o
 no_memory words o silent = inr (inr (inr (record { answered = refl; silent = silent })))
