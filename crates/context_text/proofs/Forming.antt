@@ -1,21 +1,20 @@
 -- A context without faults is a formed program.
-use Rattle.std.proofs.Common.{◌≡◌, ◌||◌, ◌&&◌, ◌++◌, ◌≤◌, ◌<◌, ℕ, zero, suc, ◌+◌, ◌-◌, Bool, true, false, not, List, [], ◌∷◌, Option, Some, None, length, map, drop, refl, sym, ap, ◌∙◌, subst, arith, fold, if◌then◌else◌, nat_eq}
+use Rattle.std.proofs.Common.{◌≡◌, ◌||◌, ◌&&◌, ◌++◌, ◌≤◌, ℕ, zero, suc, ◌+◌, ◌-◌, Bool, true, false, not, List, [], ◌∷◌, Option, Some, None, length, map, refl, sym, ap, ◌∙◌, subst, arith, fold, if◌then◌else◌, nat_eq}
 use Rattle.std.specs.Prelude.{nat_le, is_some, slice_get}
-use Rattle.std.specs.List.{list_any, list_all, range_with_len}
+use Rattle.std.specs.List.{list_any, list_all}
 use Rattle.std.specs.Str.{bytes_eq}
 use Rattle.std.proofs.lemmas.Bool.{true≢false, and_parts, and_from, leb-true, le-leb, eq-eqb}
 use Rattle.std.proofs.lemmas.Option.{same_Some}
 use Rattle.micro_isa.specs.declared.instr.Instr.{Instr}
 use Rattle.micro_isa.specs.declared.program.VReg.{VReg}
 use Rattle.micro_isa.specs.declared.program.Line.{Line}
-use Rattle.micro_isa.specs.Formed as formed
 use Rattle.micro_isa.specs.Formed.{Each, firsts_after, named_by, names_below, target_of, is_labelled, fits_channels, always_rises, never_falls, never_drops, all_below, is_distinct, IsFormedProgram}
-use Rattle.text_lines.specs.Cutting.{Words, TextLine}
+use Rattle.text_lines.specs.Cutting.{TextLine}
 use Rattle.text_lines.specs.Tables.{knows, declare, one}
 use Rattle.text_lines.proofs.First.{none_met, none_at}
-use Rattle.context_text.specs.Forms.{Form, Body, does, ends, registers_in}
+use Rattle.context_text.specs.Forms.{does, ends, registers_in}
 use Rattle.context_text.specs.Said.{Said, with_line, line_body, said_by, count}
-use Rattle.context_text.specs.Faults.{Channels, is_loose, body_tests, line_fault, faults_after, lines_fault}
+use Rattle.context_text.specs.Faults.{Channels, body_tests, line_fault, faults_after, lines_fault}
 use Rattle.context_text.specs.Programs.{instr_in, on_line, line_code, code_after, code_of, labels_from, program_of}
 use Rattle.context_text.proofs.Naming.{said_snoc}
 use Rattle.context_text.proofs.Numbering.{numbers, places_all, firsts-append, first_names}

@@ -1,5 +1,5 @@
 -- Labels and registers of lines without faults are names.
-use Rattle.std.proofs.Common.{◌≡◌, ◌||◌, ◌++◌, Bool, true, false, List, [], ◌∷◌, Option, Some, None, length, refl, sym, ap, ◌∙◌, subst, append-nil, append_assoc, ◌≤◌, nat_lt}
+use Rattle.std.proofs.Common.{◌≡◌, ◌||◌, ◌++◌, Bool, true, false, List, [], ◌∷◌, None, length, refl, sym, subst, append-nil, append_assoc, ◌≤◌, nat_lt}
 use Rattle.std.specs.List.{list_all}
 use Rattle.std.proofs.lemmas.Bool.{or_parts, ltb-false}
 use Rattle.micro_isa.specs.Names.{name_test}

@@ -1,5 +1,5 @@
 -- What the lines of a context say is in order, where no line has a fault.
-use Rattle.std.proofs.Common.{◌≡◌, ◌||◌, ◌&&◌, ◌++◌, ◌≤◌, ◌<◌, ℕ, ◌+◌, Bool, true, false, not, List, [], ◌∷◌, Option, Some, None, length, refl, sym, ap, ◌∙◌, subst, arith, fold, if◌then◌else◌, nat_lt, nat_eq}
+use Rattle.std.proofs.Common.{◌≡◌, ◌&&◌, ◌++◌, ◌≤◌, ◌<◌, ℕ, ◌+◌, Bool, true, false, not, List, [], ◌∷◌, Option, Some, None, length, refl, sym, ap, ◌∙◌, subst, arith, fold, if◌then◌else◌, nat_lt, nat_eq}
 use Rattle.std.specs.Prelude.{nat_le, is_some}
 use Rattle.std.specs.List.{list_any, list_all}
 use Rattle.std.specs.Str.{bytes_eq}
@@ -12,7 +12,7 @@ use Rattle.text_lines.specs.Limits.{most_registers, most_instructions}
 use Rattle.text_lines.specs.Tables.{knows, declare, one}
 use Rattle.text_lines.proofs.First.{none_met, none_at}
 use Rattle.text_lines.proofs.Known.{distinct_snoc, distinct_fold, other_word}
-use Rattle.context_text.specs.Forms.{Form, Body, does, ends, registers_in}
+use Rattle.context_text.specs.Forms.{Body, does, ends, registers_in}
 use Rattle.context_text.specs.Said.{Said, with_body, with_line, line_body, said_by, count, targets_after}
 use Rattle.context_text.specs.Faults.{Channels, is_loose, body_tests, line_fault, faults_after, lines_fault}
 use Rattle.context_text.proofs.Naming.{said_snoc}

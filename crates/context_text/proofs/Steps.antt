@@ -1,14 +1,13 @@
 -- One line further in a context.
-use Rattle.std.proofs.Common.{◌≡◌, ◌++◌, ◌≤◌, ◌<◌, ℕ, ◌+◌, List, [], ◌∷◌, length, take, drop, get_or, Option, Some, None, refl, sym, ap, ◌∙◌, subst, Bool, true, false, arith, append_assoc}
+use Rattle.std.proofs.Common.{◌≡◌, ◌++◌, ◌≤◌, ◌<◌, ℕ, ◌+◌, List, length, take, drop, get_or, None, sym, ap, ◌∙◌, subst, Bool, true, false, arith, append_assoc}
 use Rattle.micro_isa.specs.declared.program.Line.{Line}
-use Rattle.text_lines.specs.declared.fault.BundleKind.{BundleKind}
 use Rattle.text_lines.specs.declared.fault.BundleFault.{BundleFault}
 use Rattle.text_lines.specs.Cutting.{Words, TextLine}
-use Rattle.text_lines.specs.Faults.{At, at_or, Causes}
+use Rattle.text_lines.specs.Faults.{at_or, Causes}
 use Rattle.text_lines.proofs.Causing.{caused}
 use Rattle.text_lines.proofs.Rows.{on, so_far, fold-snoc}
 use Rattle.context_text.specs.Said.{Said, nothing, with_line, said_by, count}
-use Rattle.context_text.specs.Faults.{Channels, line_fault, faults_after, lines_fault}
+use Rattle.context_text.specs.Faults.{Channels, line_fault, faults_after}
 use Rattle.context_text.specs.Programs.{line_code, code_after, code_of}
 
 pub said_more : (rows : List TextLine) (i : ℕ) (x : TextLine) → i < length rows → x ≡ get_or rows i x → said_by (take (i + 1) rows) ≡ with_line (said_by (take i rows)) x

@@ -1,5 +1,5 @@
 -- The first fault of a context's lines.
-use Rattle.std.specs.Prelude.{ℕ, ◌||◌, ◌&&◌, not, nat_lt, nat_eq, Bool, List, [], ◌∷◌, ◌++◌, Option, Some, None, is_some, length, slice_get, if◌then◌else◌}
+use Rattle.std.specs.Prelude.{ℕ, ◌||◌, ◌&&◌, not, nat_lt, nat_eq, Bool, List, [], ◌∷◌, ◌++◌, Option, None, is_some, length, slice_get, if◌then◌else◌}
 use Rattle.std.specs.List.{list_any}
 use Rattle.micro_isa.specs.declared.program.Channel.{Channel}
 use Rattle.micro_isa.specs.Formed.{gives_words, takes_words}
@@ -10,7 +10,7 @@ use Rattle.text_lines.specs.Faults.{At, first_kind, at_or}
 use Rattle.text_lines.specs.Limits.{most_registers, most_instructions}
 use Rattle.text_lines.specs.Numbers.{is_no_number}
 use Rattle.text_lines.specs.Tables.{knows, place_of, misnamed, one}
-use Rattle.context_text.specs.Forms.{Form, Body, is_unknown, is_miscounted, does, ends, registers_in, goes_to, receives_from, sends_to, number_in}
+use Rattle.context_text.specs.Forms.{Body, is_unknown, is_miscounted, does, ends, registers_in, goes_to, receives_from, sends_to, number_in}
 use Rattle.context_text.specs.Said.{Said, with_body, line_body, said_by}
 
 -- the channels that a text has so far, with their names

@@ -9,7 +9,7 @@ use Rattle.micro_isa.specs.declared.program.Program.{Program}
 use Rattle.text_lines.specs.Cutting.{Words, TextLine}
 use Rattle.text_lines.specs.Numbers.{number_or}
 use Rattle.text_lines.specs.Tables.{place_of}
-use Rattle.context_text.specs.Forms.{Form, Blank, Li, Mov, Alu, Div, Ctx, Jmp, Branch, Load, Store, Yield, Recv, Send, Halt, Miscounted, Unknown}
+use Rattle.context_text.specs.Forms.{Form, Li, Mov, Alu, Div, Ctx, Jmp, Branch, Load, Store, Yield, Recv, Send, Halt}
 use Rattle.context_text.specs.Said.{Said, with_line, line_body, said_by}
 
 -- the number of a register

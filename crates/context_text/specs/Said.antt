@@ -2,7 +2,7 @@
 use Rattle.std.specs.Prelude.{ℕ, ◌+◌, ◌++◌, Bool, true, false, List, [], ◌∷◌, Option, Some, None, fold, if◌then◌else◌}
 use Rattle.text_lines.specs.Cutting.{Words, TextLine}
 use Rattle.text_lines.specs.Tables.{knows, declare, one}
-use Rattle.context_text.specs.Forms.{Form, Body, body_of, does, registers_in}
+use Rattle.context_text.specs.Forms.{Body, body_of, does, registers_in}
 
 -- labels and registers in the order of their first appearance, for each label the number of the instruction that it
 -- names, and how many instruction lines there are

@@ -1,5 +1,5 @@
 -- What stands in the text, for values that lend it.
-use Rattle.std.specs.Prelude.{ℕ, List, map, option_map}
+use Rattle.std.specs.Prelude.{option_map}
 use Rattle.text_lines.specs.Tables.{words_seen}
 use Rattle.context_text.specs.Forms as spec
 use Rattle.context_text.specs.Said as lines

@@ -1,4 +1,4 @@
-use Rattle.std.proofs.Common.{◌≡◌, sym, subst}
+use Rattle.std.proofs.Common.{sym, subst}
 use Rattle.text_lines.specs.Tables.{words_seen}
 use Rattle.context_text.specs.Faults.{channels}
 use Rattle.context_text.proofs.Naming.{IsNamed, named}

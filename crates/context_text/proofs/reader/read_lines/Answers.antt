@@ -1,4 +1,4 @@
-use Rattle.std.proofs.Common.{◌≡◌, ◌+◌, ◌≤◌, sym, ap, ◌∙◌, subst, arith}
+use Rattle.std.proofs.Common.{sym, ap, ◌∙◌, subst, arith}
 use Rattle.text_lines.specs.Tables.{words_seen}
 use Rattle.text_lines.specs.Faults.{Causes}
 use Rattle.context_text.specs.Faults.{channels}
