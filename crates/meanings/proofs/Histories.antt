@@ -5,7 +5,7 @@ use Rattle.world.specs.declared.event.Event.{Event}
 use Rattle.world.specs.declared.event.Entry.{Entry}
 use Rattle.world.specs.declared.event.Seen.{Seen}
 use Rattle.world.specs.declared.event.Illegal.{Illegal}
-use Rattle.meanings.specs.Core.{Core, illegal_of}
+use Rattle.meanings.specs.Core.{illegal_of}
 use Rattle.meanings.specs.Events.{Side, Moment, happens, unless_illegal, step, after_first, run_on, run}
 use Rattle.meanings.specs.Entries.{event_of, entry_seen, LeadsTo}
 use Rattle.meanings.specs.Rounds.{last_after, last_of, KeepsOrder, InRoundOrder}

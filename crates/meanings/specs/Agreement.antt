@@ -1,13 +1,13 @@
 -- What a run shows, and when two runs show the same.
-use Rattle.std.specs.Prelude.{◌≡◌, ℕ, List, Option, Some, None, option_map}
+use Rattle.std.specs.Prelude.{◌≡◌, ℕ, List, Option, option_map}
 use Rattle.micro_isa.specs.declared.program.Bundle.{Bundle}
 use Rattle.micro_isa.specs.declared.image.Image.{Image}
 use Rattle.world.specs.declared.event.Event.{Event}
 use Rattle.world.specs.declared.event.Seen.{Seen}
 use Rattle.world.specs.declared.event.View.{View}
 use Rattle.world.specs.declared.event.End.{End}
-use Rattle.meanings.specs.Core.{Core, shown_core, ending_of}
-use Rattle.meanings.specs.Events.{Side, Moment, run}
+use Rattle.meanings.specs.Core.{shown_core, ending_of}
+use Rattle.meanings.specs.Events.{Moment, run}
 use Rattle.meanings.specs.Source.{source_side, source_open}
 use Rattle.meanings.specs.Machine.{machine_side, machine_open}
 

@@ -1,5 +1,5 @@
 -- The core of a run: all of it but registers and places. Both meanings share what is said here.
-use Rattle.std.specs.Prelude.{ℕ, ◌+◌, ◌-◌, List, [], ◌∷◌, length, replicate, Bool, true, false, ◌||◌, not, nat_lt, Option, Some, None, slice_get, slice_set, slice_index, if◌then◌else◌}
+use Rattle.std.specs.Prelude.{ℕ, ◌+◌, ◌-◌, List, length, replicate, Bool, true, false, ◌||◌, nat_lt, Option, Some, None, slice_get, slice_set, slice_index, if◌then◌else◌}
 use Rattle.std.specs.List.{list_any, list_all}
 use Rattle.micro_isa.specs.declared.program.Setting.{Setting}
 use Rattle.world.specs.declared.event.Phase.{Phase}

@@ -1,7 +1,6 @@
 -- Round order: after a segment of a context the next segment is that of the first runnable context behind it.
 use Rattle.std.specs.Prelude.{◌≡◌, ℕ, ◌+◌, ◌-◌, List, [], ◌∷◌, ◌++◌, length, find, Option, Some, None}
 use Rattle.std.specs.List.{range_with_len}
-use Rattle.world.specs.declared.event.Event.TheVariants as event
 use Rattle.world.specs.declared.event.Entry.{Entry}
 use Rattle.world.specs.declared.event.Entry.TheVariants as entry
 use Rattle.meanings.specs.Core.{Core, is_runnable}

@@ -1,11 +1,11 @@
 -- What a bundle means: each context has registers of its own, as many as it names, all 0 at first.
-use Rattle.std.specs.Prelude.{ℕ, zero, suc, List, [], map, Option, Some, None, slice_get, option_map, ◌==◌, if◌then◌else◌, length}
+use Rattle.std.specs.Prelude.{ℕ, zero, suc, List, [], Option, Some, None, slice_get, option_map, ◌==◌, if◌then◌else◌, length}
 use Rattle.micro_isa.specs.declared.program.VReg.{VReg}
 use Rattle.micro_isa.specs.declared.program.Line.{Line}
 use Rattle.micro_isa.specs.declared.program.Program.{Program}
 use Rattle.micro_isa.specs.declared.program.Bundle.{Bundle}
 use Rattle.meanings.specs.declared.Stop.TheVariants as stop
-use Rattle.meanings.specs.Core.{Core, opening_core}
+use Rattle.meanings.specs.Core.{opening_core}
 use Rattle.meanings.specs.Events.{Gone, Side, Moment}
 use Rattle.meanings.specs.Effects.{Numbered, Effect, Onward, Ends, effect_at}
 

@@ -1,19 +1,17 @@
 -- From what was asked and what the sink took to what the call leaves; and when a task is served.
-use Rattle.std.proofs.Common.{◌≡◌, ℕ, ◌+◌, ◌<◌, ◌≤◌, List, [], ◌++◌, length, take, Option, Some, None, refl, sym, ap, ◌∙◌, subst, arith, append-nil, length-append, inl, inr}
-use Rattle.std.specs.Prelude.{option_map, ◌⊎◌}
+use Rattle.std.proofs.Common.{◌≡◌, ℕ, ◌+◌, ◌<◌, ◌≤◌, List, ◌++◌, length, take, Option, Some, None, refl, sym, ap, ◌∙◌, subst, arith, append-nil, length-append, inl, inr}
+use Rattle.std.specs.Prelude.{◌⊎◌}
 use Rattle.std.proofs.lemmas.Option.{same_Some}
 use Rattle.micro_isa.specs.declared.program.Bundle.{Bundle}
-use Rattle.micro_kit.specs.Streams.{Rose, Gives, GivesAtMost, Grew, IsSpent}
-use Rattle.asm_text.specs.Texts.{text_fault, Spells}
+use Rattle.micro_kit.specs.Streams.{Rose, Gives, Grew, IsSpent}
+use Rattle.asm_text.specs.Texts.{Spells}
 use Rattle.tasks.specs.declared.status.Status.{Status}
 use Rattle.tasks.specs.declared.status.Status.TheVariants as status
 use Rattle.tasks.specs.declared.task.Task.{Task}
 use Rattle.tasks.specs.Tells.{Fits, Tells, IsServed}
 use Rattle.tasks.proofs.Telling.{served}
 use Rattle.micro_cli.specs.declared.command.Silence.TheVariants as silence
-use Rattle.micro_cli.specs.Lines.{input_limit}
-use Rattle.micro_cli.specs.Words.{task_asked}
-use Rattle.micro_cli.specs.Answers.{TellsFault, TellsBundle, Says, TellsInput, TellsTooLong, TellsUsage, TellsTask, Asks}
+use Rattle.micro_cli.specs.Answers.{Says, TellsInput, TellsTooLong, TellsUsage, TellsTask, Asks}
 use Rattle.micro_cli.specs.Silences.{IsSilent}
 use Rattle.micro_cli.specs.Calls.{Outside, Finishes, HasNoCause, IsServedOrFree}
 

@@ -90,4 +90,3 @@ pub record HasNoCause (words : List (List ℕ)) (o : Outside) : Type 0 where
 -- the task was served and its whole text written; or memory was wanting
 abbrev pub IsServedOrFree : Status → Type 0
 IsServedOrFree answer = IsServed answer ⊎ (answer ≡ status.NoMemory)
-

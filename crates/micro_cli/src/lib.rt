@@ -4,9 +4,9 @@
 mod call;
 mod command;
 mod lines;
-mod words;
 #[cfg(test)]
 mod tests;
+mod words;
 
 pub use call::plain_call;
 pub use tasks::Status;

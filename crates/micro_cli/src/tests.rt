@@ -15,12 +15,14 @@ const REPORT: &[u8] =
 const SOURCE: &[u8] =
     b"run 0 4 send\nrun 0 1 halt\noutput 0 5\ncontext 0 halted\nsteps 5\nend finished\n";
 
-const LOOSE: &[u8] = b"memory 0x10\nfile 02 # small\noutput out\ncontext a\ntop: li x 0xFF\n send out x\n jmp top\n";
+const LOOSE: &[u8] =
+    b"memory 0x10\nfile 02 # small\noutput out\ncontext a\ntop: li x 0xFF\n send out x\n jmp top\n";
 
 const CANONICAL: &[u8] =
     b"file 2\nmemory 16\noutput out\ncontext a\ntop:\n  li x, 255\n  send out, x\n  jmp top\n";
 
-const PORTED: &[u8] = b"file 2\ninput rx port 0 4\noutput tx\ncontext a\nloop:\nrecv x, rx\nsend tx, x\njmp loop\n";
+const PORTED: &[u8] =
+    b"file 2\ninput rx port 0 4\noutput tx\ncontext a\nloop:\nrecv x, rx\nsend tx, x\njmp loop\n";
 
 const PORTED_REPORT: &[u8] =
     b"unplug 0\nrun 0 1 recv\noutput 1\ncontext 0 receive 0\nsteps 1\nend stuck\n";
@@ -29,7 +31,8 @@ const USAGE: &[u8] = b"usage: micro COMMAND [NUMBER] [--steps N] [--order round|
 
 /// A call: its words, the input, the failing calls of the source and the sink; and what it must
 /// write, with which status.
-struct Case {
+#[derive(Drop)]
+struct Call {
     words: &'static [&'static str],
     input: &'static [u8],
     reads: &'static [u64],
@@ -38,13 +41,13 @@ struct Case {
     status: Status,
 }
 
-fn case(
+fn call_of(
     words: &'static [&'static str],
     input: &'static [u8],
     wrote: &'static [u8],
     status: Status,
-) -> Case {
-    Case {
+) -> Call {
+    Call {
         words,
         input,
         reads: &[],
@@ -55,19 +58,19 @@ fn case(
 }
 
 /// The status of a call, where it writes what it must.
-fn status_of(alloc: Global, case: &Case) -> Result<Status, Fail> {
+fn status_of(alloc: Global, call: &Call) -> Result<Status, Fail> {
     let mut words = Vec::new(alloc);
-    for word in case.words {
+    for word in call.words {
         words.push(String::from_str(alloc, word)?)?;
     }
-    let reads = Vec::from_slice(alloc, case.reads)?;
-    let writes = Vec::from_slice(alloc, case.writes)?;
-    let mut source = MemSource::of(Vec::from_slice(alloc, case.input)?, 8, reads);
+    let reads = Vec::from_slice(alloc, call.reads)?;
+    let writes = Vec::from_slice(alloc, call.writes)?;
+    let mut source = MemSource::of(Vec::from_slice(alloc, call.input)?, 8, reads);
     let Ok(mut sink) = MemSink::of(alloc, 4, writes, 1000) else {
         return Err(Fail::from("ample memory"));
     };
     let status = plain_call(alloc, &words, &mut source, &mut sink);
-    if sink.wrote_bytes() == case.wrote {
+    if sink.wrote_bytes() == call.wrote {
         Ok(status)
     } else {
         Err(Fail::from("other bytes were written"))
@@ -78,22 +81,32 @@ fn status_of(alloc: Global, case: &Case) -> Result<Status, Fail> {
 fn serves_and_refuses(rt: HostRuntime) -> Result<(), Fail> {
     let alloc = rt.alloc();
     let cases = [
-        case(&["run"], EXAMPLE, REPORT, Status::Done),
-        case(&["--order=round", "run", "--steps", "5"], EXAMPLE, REPORT, Status::Done),
-        case(&["run"], NO_FIT, b"nofit need 2 file 1\n", Status::NoFit),
-        case(&["run"], b"file 2\ncontext a\nli x\nhalt\n", b"bundle 3 operands\n", Status::BadBundle),
-        case(&["source"], EXAMPLE, SOURCE, Status::Done),
-        case(&["source"], PORTED, PORTED_REPORT, Status::Stuck),
-        case(&["fmt"], LOOSE, CANONICAL, Status::Done),
-        case(
+        call_of(&["run"], EXAMPLE, REPORT, Status::Done),
+        call_of(
+            &["--order=round", "run", "--steps", "5"],
+            EXAMPLE,
+            REPORT,
+            Status::Done,
+        ),
+        call_of(&["run"], NO_FIT, b"nofit need 2 file 1\n", Status::NoFit),
+        call_of(
+            &["run"],
+            b"file 2\ncontext a\nli x\nhalt\n",
+            b"bundle 3 operands\n",
+            Status::BadBundle,
+        ),
+        call_of(&["source"], EXAMPLE, SOURCE, Status::Done),
+        call_of(&["source"], PORTED, PORTED_REPORT, Status::Stuck),
+        call_of(&["fmt"], LOOSE, CANONICAL, Status::Done),
+        call_of(
             &["check"],
             EXAMPLE,
             b"context 0 private 0 all 2 regions 2\nneed 2 file 2\n",
             Status::Done,
         ),
-        case(&["fast"], EXAMPLE, USAGE, Status::Usage),
-        case(&[], EXAMPLE, USAGE, Status::Usage),
-        Case {
+        call_of(&["fast"], EXAMPLE, USAGE, Status::Usage),
+        call_of(&[], EXAMPLE, USAGE, Status::Usage),
+        Call {
             words: &["run"],
             input: EXAMPLE,
             reads: &[1],
@@ -101,7 +114,7 @@ fn serves_and_refuses(rt: HostRuntime) -> Result<(), Fail> {
             wrote: b"",
             status: Status::ReadFault,
         },
-        Case {
+        Call {
             words: &["run"],
             input: EXAMPLE,
             reads: &[],
@@ -113,5 +126,36 @@ fn serves_and_refuses(rt: HostRuntime) -> Result<(), Fail> {
     for call in cases.iter() {
         assert_eq!(rt; status_of(alloc, call)?, call.status);
     }
+    Ok(())
+}
+
+/// The status of a `check` of this many newlines, where it writes what it must.
+fn check_newlines(alloc: Global, count: usize, wrote: &[u8]) -> Result<Status, Fail> {
+    let mut words = Vec::new(alloc);
+    words.push(String::from_str(alloc, "check")?)?;
+    let input = vec![in alloc; b'\n'; count]?;
+    let mut source = MemSource::of(input, 4096, Vec::new(alloc));
+    let Ok(mut sink) = MemSink::of(alloc, 64, Vec::new(alloc), 1000) else {
+        return Err(Fail::from("ample memory"));
+    };
+    let status = plain_call(alloc, &words, &mut source, &mut sink);
+    if sink.wrote_bytes() == wrote {
+        Ok(status)
+    } else {
+        Err(Fail::from("other bytes were written"))
+    }
+}
+
+#[test]
+fn reads_as_much_as_the_limit(rt: HostRuntime) -> Result<(), Fail> {
+    let alloc = rt.alloc();
+    assert_eq!(rt;
+        check_newlines(alloc, 1_048_577, b"toolong 1048576\n")?,
+        Status::TooLong
+    );
+    assert_eq!(rt;
+        check_newlines(alloc, 1_048_576, b"bundle 1048577 missing\n")?,
+        Status::BadBundle
+    );
     Ok(())
 }

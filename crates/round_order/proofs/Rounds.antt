@@ -1,5 +1,5 @@
 -- Turns in round order: who is next, and what a turn adds to the run so far.
-use Rattle.std.proofs.Common.{◌≡◌, ◌≢◌, ℕ, zero, suc, ◌+◌, ◌-◌, ◌<◌, ◌≤◌, List, [], ◌∷◌, ◌++◌, length, Option, Some, None, Bool, true, false, refl, sym, ap, ◌∙◌, subst, arith, inl, inr}
+use Rattle.std.proofs.Common.{◌≡◌, ℕ, zero, suc, ◌+◌, ◌-◌, ◌<◌, ◌≤◌, List, [], ◌∷◌, ◌++◌, length, Option, Some, None, Bool, true, false, refl, sym, ap, ◌∙◌, subst, arith, inl, inr}
 use Rattle.std.specs.Prelude.{slice_get, nat_lt, find, ◌||◌, ◌⊎◌, if◌then◌else◌}
 use Rattle.std.specs.List.{list_any, list_all, range_with_len}
 use Rattle.std.proofs.lemmas.Bool.{ltb-true, ltb-false, cases_eq}
@@ -8,9 +8,7 @@ use Rattle.std.proofs.lemmas.List.{append-nil, append_assoc}
 use Rattle.std.proofs.lemmas.List.Folds.{find-append}
 use Rattle.std.specs.Option.{option_or}
 use Rattle.world.specs.declared.event.Phase.{Phase}
-use Rattle.world.specs.declared.event.Event.{Event}
 use Rattle.world.specs.declared.event.Event.TheVariants.{Run}
-use Rattle.world.specs.declared.event.Seen.{Seen}
 use Rattle.world.specs.declared.event.Seen.TheVariants as seen
 use Rattle.world.specs.declared.event.Segment.{Segment}
 use Rattle.world.specs.declared.event.Entry.{Entry}
@@ -19,7 +17,6 @@ use Rattle.world.specs.declared.event.Illegal.TheVariants as illegal
 use Rattle.world.specs.declared.event.End.TheVariants as ending
 use Rattle.world.specs.WorldState.{WorldState, has_open_input}
 use Rattle.meanings.specs.Core.{Core, can_go_on, is_runnable, illegal_of, has_ended, some_runnable, ending_of}
-use Rattle.meanings.specs.Entries.{event_of}
 use Rattle.meanings.specs.Rounds.{behind, next_in_round, last_after, last_of, KeepsOrder}
 use Rattle.meanings.specs.Events.{Side, Moment, happens, unless_illegal}
 use Rattle.meanings.proofs.Histories.{leads_more, order_more, last_of-append}

@@ -1,5 +1,5 @@
 -- A worked bundle, by computation: a whole run of it is legal for the source and for its image, and puts out the word 5.
-use Rattle.std.proofs.Common.{◌≡◌, ℕ, List, [], ◌∷◌, Option, Some, None, codes, refl, false}
+use Rattle.std.proofs.Common.{◌≡◌, List, [], ◌∷◌, Some, None, codes, refl, false}
 use Rattle.micro_isa.specs.declared.arithmetic.AluOp.TheVariants as alu
 use Rattle.micro_isa.specs.declared.instr.Instr.TheVariants as instr
 use Rattle.micro_isa.specs.declared.program.VReg.{VReg}
@@ -8,7 +8,6 @@ use Rattle.micro_isa.specs.declared.program.Bundle.{Bundle}
 use Rattle.world.specs.declared.event.Event.{Event}
 use Rattle.world.specs.declared.event.Event.TheVariants.{Run}
 use Rattle.world.specs.declared.event.Phase.TheVariants.{Halted}
-use Rattle.world.specs.declared.event.Seen.{Seen}
 use Rattle.world.specs.declared.event.Seen.TheVariants.{Ran}
 use Rattle.world.specs.declared.event.SegmentEnd.TheVariants as end
 use Rattle.world.specs.declared.event.Output.{Output}

@@ -76,12 +76,7 @@ fn put_text(text: &mut Vec<u8>, bytes: &[u8]) -> Result<(), NoMemory>
     }
 }
 
-fn run_fitting(
-    alloc: Global,
-    bundle: &Bundle,
-    need: u32,
-    steps: u32,
-) -> Result<Reply, NoMemory>
+fn run_fitting(alloc: Global, bundle: &Bundle, need: u32, steps: u32) -> Result<Reply, NoMemory>
     requires formed { IsFormedBundle bundle.now }
     requires bound { steps ≤ 1048576 }
     requires need { need ≡ sliced_need bundle.now }
@@ -107,12 +102,7 @@ fn run_image(alloc: Global, image: &Image, need: u32, steps: u32) -> Result<Repl
     }
 }
 
-fn report_of(
-    alloc: Global,
-    image: &Image,
-    need: u32,
-    run: &EngineRun,
-) -> Result<Reply, NoMemory>
+fn report_of(alloc: Global, image: &Image, need: u32, run: &EngineRun) -> Result<Reply, NoMemory>
     ensures status { IfOk result (λ r. r.status ≡ status_of run.now.end run.now.engine.core.phases) }
     ensures text { IfOk result (λ r. r.text.items ≡ report_text (Some need) (Some image.now) image.now.setting.channels run.now.entries.items (record { view = shown_core run.now.engine.core; file = Some run.now.engine.file; ending = Some run.now.end })) }
 {

@@ -1,4 +1,4 @@
-use Rattle.std.proofs.Common.{◌≡◌, ◌∙◌, subst}
+use Rattle.std.proofs.Common.{◌∙◌, subst}
 use Rattle.round_order.specs.Journals.{UnpluggedAt}
 use Rattle.round_order.proofs.Unplugging.{opened_more}
 use Rattle.round_order.proofs.opening.unplug_all.Goals as goal

@@ -1,4 +1,4 @@
-use Rattle.std.proofs.Common.{ap, sym, ◌∙◌, ◌-◌, ◌+◌}
+use Rattle.std.proofs.Common.{ap, ◌∙◌, ◌-◌, ◌+◌}
 use Rattle.std.specs.Prelude.{find}
 use Rattle.std.specs.List.{range_with_len}
 use Rattle.meanings.specs.Core.{is_runnable}

@@ -1,4 +1,4 @@
-use Rattle.std.proofs.Common.{sym, subst, ◌∙◌, Some, None}
+use Rattle.std.proofs.Common.{sym, subst, ◌∙◌, Some}
 use Rattle.round_order.specs.Journals.{IsRunSoFar, IsTurn}
 use Rattle.round_order.proofs.Rounds.{turn_more}
 use Rattle.round_order.proofs.order.take_turns.Goals as goal
