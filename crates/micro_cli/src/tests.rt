@@ -27,6 +27,26 @@ const PORTED: &[u8] =
 const PORTED_REPORT: &[u8] =
     b"unplug 0\nrun 0 1 recv\noutput 1\ncontext 0 receive 0\nsteps 1\nend stuck\n";
 
+const PORTED_RUN: &[u8] =
+    b"need 1\nbudget private 0 shared 1\nglue 0\nunplug 0\nrun 0 1 recv\noutput 1\ncontext 0 receive 0\nfile 0 0\nsteps 1\nend stuck\n";
+
+/// No step is left at the first instruction.
+const CUT_AT_ONCE: &[u8] =
+    b"need 2\nbudget private 0 shared 2\nglue 0\nrun 0 0 bound\noutput 0\ncontext 0 ready\nfile 0 0\nsteps 0\nend bound\n";
+
+const RECEIVES: &[u8] =
+    b"file 1\ninput rx\nwords rx 7\noutput out\ncontext a\nrecv x, rx\nsend out, x\nhalt\n";
+
+/// No step is left behind the switch, and the word was taken.
+const CUT_AT_A_SWITCH: &[u8] =
+    b"need 1\nbudget private 0 shared 1\nglue 0\nrun 0 1 recv\nrun 0 0 bound\noutput 1\ncontext 0 ready\nfile 7\nsteps 1\nend bound\n";
+
+/// The second of three instructions is not reached.
+const JUMPS_OVER: &[u8] = b"file 1\ncontext a\njmp end\nli x, 1\nend: halt\n";
+
+const JUMPS_OVER_CHECK: &[u8] =
+    b"context 0 private 0 all 1 regions 1\nunreachable 0 4\nneed 1 file 1\n";
+
 const USAGE: &[u8] = b"usage: micro COMMAND [NUMBER] [--steps N] [--order round|threads]\n";
 
 /// A call: its words, the input, the failing calls of the source and the sink; and what it must
@@ -96,6 +116,20 @@ fn serves_and_refuses(rt: HostRuntime) -> Result<(), Fail> {
             Status::BadBundle,
         ),
         call_of(&["source"], EXAMPLE, SOURCE, Status::Done),
+        call_of(&["run"], PORTED, PORTED_RUN, Status::Stuck),
+        call_of(
+            &["run", "--steps", "0"],
+            EXAMPLE,
+            CUT_AT_ONCE,
+            Status::Bound,
+        ),
+        call_of(
+            &["run", "--steps=1"],
+            RECEIVES,
+            CUT_AT_A_SWITCH,
+            Status::Bound,
+        ),
+        call_of(&["check"], JUMPS_OVER, JUMPS_OVER_CHECK, Status::Done),
         call_of(&["source"], PORTED, PORTED_REPORT, Status::Stuck),
         call_of(&["fmt"], LOOSE, CANONICAL, Status::Done),
         call_of(
