@@ -8,20 +8,20 @@ use Rattle.std.proofs.lemmas.List.{length-append}
 use Rattle.std.proofs.lemmas.Option.{same_Some}
 use Rattle.micro_isa.specs.declared.program.Program.{Program}
 use Rattle.micro_isa.specs.Formed.{Each, always_rises, is_distinct, fits_channels, IsFormedProgram, IsFormedBundle}
-use Rattle.text_lines.specs.declared.fault.BundleKind.TheVariants.{Missing}
+use Rattle.asm_lines.specs.declared.fault.BundleKind.TheVariants.{Missing}
 use Rattle.micro_isa.specs.declared.program.Bundle.{Bundle}
-use Rattle.text_lines.specs.Cutting.{Words, TextLine, numbered, lines_from, text_lines}
-use Rattle.text_lines.specs.Faults.{At, or_else}
-use Rattle.text_lines.specs.Limits.{most_contexts, largest_file, largest_memory}
-use Rattle.text_lines.specs.Tables.{knows, declare, one}
-use Rattle.text_lines.proofs.First.{none_met, none_at, none_first}
-use Rattle.text_lines.proofs.Known.{declare_new, distinct_snoc, other_word}
-use Rattle.header_text.specs.Headers.{Header}
-use Rattle.header_text.specs.Faults.{header_fault}
-use Rattle.header_text.specs.Sound.{IsSound}
-use Rattle.header_text.proofs.Sounding.{sound_header}
-use Rattle.context_text.specs.Faults as context
-use Rattle.context_text.proofs.Forming.{program_formed, channels_fit, rises_weaker}
+use Rattle.asm_lines.specs.Cutting.{Words, TextLine, numbered, lines_from, asm_lines}
+use Rattle.asm_lines.specs.Faults.{At, or_else}
+use Rattle.asm_lines.specs.Limits.{most_contexts, largest_file, largest_memory}
+use Rattle.asm_lines.specs.Tables.{knows, declare, one}
+use Rattle.asm_lines.proofs.First.{none_met, none_at, none_first}
+use Rattle.asm_lines.proofs.Known.{declare_new, distinct_snoc, other_word}
+use Rattle.asm_header.specs.Headers.{Header}
+use Rattle.asm_header.specs.Faults.{header_fault}
+use Rattle.asm_header.specs.Sound.{IsSound}
+use Rattle.asm_header.proofs.Sounding.{sound_header}
+use Rattle.asm_context.specs.Faults as context
+use Rattle.asm_context.proofs.Forming.{program_formed, channels_fit, rises_weaker}
 use Rattle.asm_text.specs.Contexts.{starts, name_in, ahead, has_instruction, start_tests, start_fault, context_fault, names_with, contexts_fault, program_at, programs}
 use Rattle.asm_text.specs.Texts.{header_in, end_fault, lines_fault, bundle_said, Spells}
 
@@ -193,4 +193,4 @@ numbered_rises n (l ∷ ls) = and_from (nat_le n n) (always_rises (n + 1) (map (
 
 -- what a text spells is formed
 pub spelled_formed : (text : List ℕ) (b : Bundle) → Spells text b → IsFormedBundle b
-spelled_formed text b s = subst IsFormedBundle (sym s.said) (lines_formed (text_lines text) (numbered_rises 1 (lines_from [] text)) s.free)
+spelled_formed text b s = subst IsFormedBundle (sym s.said) (lines_formed (asm_lines text) (numbered_rises 1 (lines_from [] text)) s.free)

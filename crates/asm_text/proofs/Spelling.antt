@@ -1,9 +1,9 @@
 -- A text spells one bundle where it has no fault, and else none.
 use Rattle.std.proofs.Common.{◌≡◌, ℕ, List, Some, None, sym, ◌∙◌}
 use Rattle.micro_isa.specs.declared.program.Bundle.{Bundle}
-use Rattle.text_lines.specs.declared.fault.BundleFault.{BundleFault}
-use Rattle.text_lines.specs.declared.fault.BundleFault.TheVariants as fault
-use Rattle.text_lines.specs.Faults.{At, Causes}
+use Rattle.asm_lines.specs.declared.fault.BundleFault.{BundleFault}
+use Rattle.asm_lines.specs.declared.fault.BundleFault.TheVariants as fault
+use Rattle.asm_lines.specs.Faults.{At, Causes}
 use Rattle.asm_text.specs.Texts.{text_fault, Spells, SpellsAlone, SpellsNone}
 
 pub spelled_alone : (text : List ℕ) (b : Bundle) → Spells text b → SpellsAlone text b

@@ -1,11 +1,11 @@
 -- One line further among the lines of contexts.
 use Rattle.std.proofs.Common.{◌≡◌, ◌<◌, ℕ, ◌+◌, true, List, ◌∷◌, length, drop, get_or, Option, sym, ap, ◌∙◌, subst, if◌then◌else◌}
-use Rattle.text_lines.specs.declared.fault.BundleFault.{BundleFault}
-use Rattle.text_lines.specs.Cutting.{Words, TextLine}
-use Rattle.text_lines.specs.Faults.{At, or_else, Causes}
-use Rattle.text_lines.proofs.Causing.{caused_first}
-use Rattle.text_lines.proofs.Rows.{on}
-use Rattle.header_text.specs.Headers.{Header}
+use Rattle.asm_lines.specs.declared.fault.BundleFault.{BundleFault}
+use Rattle.asm_lines.specs.Cutting.{Words, TextLine}
+use Rattle.asm_lines.specs.Faults.{At, or_else, Causes}
+use Rattle.asm_lines.proofs.Causing.{caused_first}
+use Rattle.asm_lines.proofs.Rows.{on}
+use Rattle.asm_header.specs.Headers.{Header}
 use Rattle.asm_text.specs.Contexts.{starts, ahead, names_with, context_fault, contexts_fault}
 
 contexts_cons : (h : Header) (names : Words) (x : TextLine) (ls : List TextLine) → starts x.words ≡ true → contexts_fault h names (x ∷ ls) ≡ or_else (context_fault h names x (ahead ls)) (contexts_fault h (names_with names x) ls)

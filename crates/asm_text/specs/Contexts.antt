@@ -3,17 +3,17 @@ use Rattle.std.specs.Prelude.{ℕ, ◌&&◌, not, nat_le, nat_eq, Bool, false, L
 use Rattle.std.specs.List.{list_any}
 use Rattle.std.specs.Str.{bytes_eq}
 use Rattle.micro_isa.specs.declared.program.Program.{Program}
-use Rattle.text_lines.specs.declared.fault.BundleKind.{BundleKind}
-use Rattle.text_lines.specs.declared.fault.BundleKind.TheVariants as kind
-use Rattle.text_lines.specs.Cutting.{Words, TextLine}
-use Rattle.text_lines.specs.Faults.{At, first_kind, at_or, or_else}
-use Rattle.text_lines.specs.Limits.{most_contexts}
-use Rattle.text_lines.specs.Tables.{knows, declare, misnamed, one}
-use Rattle.header_text.specs.Headers.{Header}
-use Rattle.context_text.specs.Faults.{channels, lines_fault}
-use Rattle.context_text.specs.Forms.{does}
-use Rattle.context_text.specs.Programs.{program_of}
-use Rattle.context_text.specs.Said.{line_body}
+use Rattle.asm_lines.specs.declared.fault.BundleKind.{BundleKind}
+use Rattle.asm_lines.specs.declared.fault.BundleKind.TheVariants as kind
+use Rattle.asm_lines.specs.Cutting.{Words, TextLine}
+use Rattle.asm_lines.specs.Faults.{At, first_kind, at_or, or_else}
+use Rattle.asm_lines.specs.Limits.{most_contexts}
+use Rattle.asm_lines.specs.Tables.{knows, declare, misnamed, one}
+use Rattle.asm_header.specs.Headers.{Header}
+use Rattle.asm_context.specs.Faults.{channels, lines_fault}
+use Rattle.asm_context.specs.Forms.{does}
+use Rattle.asm_context.specs.Programs.{program_of}
+use Rattle.asm_context.specs.Said.{line_body}
 
 -- a line whose first word is `context` begins a context
 abbrev pub starts : Words → Bool

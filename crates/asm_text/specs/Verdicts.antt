@@ -1,16 +1,16 @@
 -- The verdict on each line of a text, which the first fault is the first of.
 use Rattle.std.specs.Prelude.{ℕ, ◌≡◌, ◌+◌, ◌++◌, true, List, [], ◌∷◌, Option, Some, None, is_none, if◌then◌else◌, length, map}
 use Rattle.std.specs.List.{list_any, list_all, range_with_len}
-use Rattle.text_lines.specs.declared.fault.BundleKind.{BundleKind}
-use Rattle.text_lines.specs.declared.fault.BundleKind.TheVariants as kind
-use Rattle.text_lines.specs.declared.fault.BundleFault.{BundleFault}
-use Rattle.text_lines.specs.declared.fault.BundleFault.TheVariants as fault
-use Rattle.text_lines.specs.Cutting.{Words, TextLine, text_lines}
-use Rattle.header_text.specs.Headers as header
-use Rattle.header_text.specs.Headers.{Header, no_header}
-use Rattle.header_text.specs.Faults as header_faults
-use Rattle.context_text.specs.Faults as context
-use Rattle.context_text.specs.Said.{Said, said_by}
+use Rattle.asm_lines.specs.declared.fault.BundleKind.{BundleKind}
+use Rattle.asm_lines.specs.declared.fault.BundleKind.TheVariants as kind
+use Rattle.asm_lines.specs.declared.fault.BundleFault.{BundleFault}
+use Rattle.asm_lines.specs.declared.fault.BundleFault.TheVariants as fault
+use Rattle.asm_lines.specs.Cutting.{Words, TextLine, asm_lines}
+use Rattle.asm_header.specs.Headers as header
+use Rattle.asm_header.specs.Headers.{Header, no_header}
+use Rattle.asm_header.specs.Faults as header_faults
+use Rattle.asm_context.specs.Faults as context
+use Rattle.asm_context.specs.Said.{Said, said_by}
 use Rattle.asm_text.specs.Contexts.{starts, ahead, start_fault, names_with}
 use Rattle.asm_text.specs.Texts.{header_in}
 
@@ -51,10 +51,10 @@ verdicts lines =
 pub record IsFirstFault (text : List ℕ) (line : ℕ) (k : BundleKind) : Type 0 where
   pub before : List Verdict
   pub behind : List Verdict
-  pub parts : verdicts (text_lines text) ≡ before ++ (line, Some k) ∷ behind
+  pub parts : verdicts (asm_lines text) ≡ before ++ (line, Some k) ∷ behind
   pub free : list_all (λ v. is_none v.1) before ≡ true
   -- there is a verdict on each line, in their order
-  pub lines : map (λ v. v.0) (verdicts (text_lines text)) ≡ range_with_len 1 (length (text_lines text) + 1)
+  pub lines : map (λ v. v.0) (verdicts (asm_lines text)) ≡ range_with_len 1 (length (asm_lines text) + 1)
 
 -- what an answer without a bundle tells of a text
 abbrev pub Tells : BundleFault → List ℕ → Type 0

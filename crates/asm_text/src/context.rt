@@ -1,16 +1,16 @@
 ghost use Rattle.std.specs.Prelude.{◌≡◌, ◌<◌, ◌≤◌, [], None, IfOk, OnOk, IfErr, length, option_map};
-ghost use Rattle.text_lines.specs.Faults.{Causes};
-ghost use Rattle.text_lines.specs.Limits.{most_channels};
-ghost use Rattle.text_lines.specs.Tables.{words_seen};
-ghost use Rattle.header_text.specs.Views.{seen_header};
+ghost use Rattle.asm_lines.specs.Faults.{Causes};
+ghost use Rattle.asm_lines.specs.Limits.{most_channels};
+ghost use Rattle.asm_lines.specs.Tables.{words_seen};
+ghost use Rattle.asm_header.specs.Views.{seen_header};
 ghost use Rattle.asm_text.specs.Contexts.{starts, name_in, ahead, has_instruction, start_fault, context_fault, names_with, contexts_fault, program_at, programs};
 
-use context_text::{is_instruction_line, read_context};
-use header_text::Header;
+use asm_context::{is_instruction_line, read_context};
+use asm_header::Header;
+use asm_lines::{BundleFault, BundleKind, MOST_CONTEXTS, Row, declare, knows};
 use indexmap::IndexSet;
 use micro_isa::{List, Program, is_name};
 use std::alloc::Global;
-use text_lines::{BundleFault, BundleKind, MOST_CONTEXTS, Row, declare, knows};
 
 /// Whether a line of these words begins a context.
 pub fn starts(words: &[&[u8]]) -> bool

@@ -1,20 +1,20 @@
 ghost use Rattle.std.specs.Prelude.{◌≡◌, ◌<◌, ◌≤◌, None, IfOk, OnOk, IfErr, length, unwrap_or, true};
 ghost use Rattle.std.specs.List.{list_all, list_any};
 ghost use Rattle.micro_isa.specs.Names.{name_test};
-ghost use Rattle.text_lines.specs.Faults.{Causes};
-ghost use Rattle.text_lines.specs.Tables.{words_seen};
-ghost use Rattle.header_text.specs.Headers.{setting_of};
-ghost use Rattle.header_text.specs.Views.{seen_header};
+ghost use Rattle.asm_lines.specs.Faults.{Causes};
+ghost use Rattle.asm_lines.specs.Tables.{words_seen};
+ghost use Rattle.asm_header.specs.Headers.{setting_of};
+ghost use Rattle.asm_header.specs.Views.{seen_header};
 ghost use Rattle.micro_isa.specs.Formed.{IsFormedBundle};
 ghost use Rattle.asm_text.specs.Contexts.{starts};
 ghost use Rattle.asm_text.specs.Texts.{bundle_said, lines_fault, text_fault, Spells, SpellsAlone, SpellsNone};
 ghost use Rattle.asm_text.specs.Verdicts.{Tells};
 
 use crate::context::{ahead, read_contexts, starts};
-use header_text::{Header, read_header};
+use asm_header::{Header, read_header};
+use asm_lines::{BundleFault, BundleKind, Row, names_of, rows_of};
 use micro_isa::{Bundle, List, NoMemory, Program, Setting};
 use std::alloc::Global;
-use text_lines::{BundleFault, BundleKind, Row, names_of, rows_of};
 
 fn has_context(rows: &[Row]) -> bool
     ensures { result ≡ list_any (λ line. starts line.words) rows.now }

@@ -1,11 +1,11 @@
 ghost use Rattle.std.specs.Prelude.{◌≤◌, length};
 
 use super::*;
+use asm_lines::{BundleFault, kind_text};
 use micro_isa::{AluOp, Channel, Instr, Line, PortUse, Test, VReg};
 use micro_kit::{put_number, read_number};
 use std::alloc::Global;
 use std::test::Fail;
-use text_lines::{BundleFault, kind_text};
 
 /// Rows of a kind, a line, and a text with `|` at the ends of its lines; `ok 0` where it is a bundle. `*N` stands
 /// for N lines of the rest of its line, in which `@` is the number of the line and `;` a newline; `+N` for N times

@@ -1,12 +1,12 @@
 //! Both cores side by side.
 
 ghost use Rattle.std.specs.Prelude.{◌≡◌, None};
-ghost use Rattle.meanings.specs.Core.{illegal_of};
+ghost use Rattle.semantics.specs.Core.{illegal_of};
 
 use crate::bundles::{Source, bundle_of, output};
 use engine_core::Engine;
 use micro_isa::{Bundle, Instr, VReg};
-use run_core::Interpreter;
+use run_state::Interpreter;
 use sliced_image::{slice_image, sliced_need};
 use source_core::SourceRun;
 use std::alloc::Global;

@@ -1,16 +1,22 @@
 -- What a context runs writes only registers that pass a test, where its words and its completion write no other.
-use Rattle.std.proofs.Common.{◌≡◌, ℕ, zero, suc, List, [], ◌∷◌, Option, Some, None, Bool, true, false, refl, ap, ◌∙◌, drop}
-use Rattle.std.specs.Prelude.{slice_get, slice_set, option_map}
+use Rattle.std.proofs.Common.{◌≡◌, ℕ, zero, suc, ◌+◌, List, [], ◌∷◌, Option, Some, None, Bool, true, false, refl, ap, ◌∙◌, drop}
+use Rattle.std.specs.Prelude.{slice_get, slice_set, option_map, ◌==◌, if◌then◌else◌}
 use Rattle.micro_isa.specs.declared.instr.Instr.{Instr}
 use Rattle.micro_isa.specs.declared.instr.Instr.TheVariants.{Li, Mov, Alu, Div, Ctx, Jmp, Branch, Load, Store, Yield, Recv, Send, Halt}
 use Rattle.micro_isa.specs.declared.image.PReg.{PReg}
 use Rattle.micro_isa.specs.declared.image.Word.{Word}
-use Rattle.micro_isa.specs.Arithmetic.{alu_of, quotient_of}
+use Rattle.micro_isa.specs.Arithmetic.{quotient_of}
 use Rattle.micro_isa.specs.Columns.{written_by}
 use Rattle.micro_isa.specs.Formed.{Each}
-use Rattle.meanings.specs.Effects.{Effect, Onward, Ends, divided, effect_of, effect_at}
-use Rattle.meanings.specs.Machine.{Running, read_in, write_all, settle_at, settle, settled, numbered_word, advance_on, counted_from, advance, received_word}
-use Rattle.meanings.proofs.Waiting.{get-set_other}
+use Rattle.semantics.specs.declared.Change.{Change}
+use Rattle.semantics.specs.declared.Change.TheVariants.{Nothing, Register}
+use Rattle.semantics.specs.declared.Stopped.{Stopped}
+use Rattle.semantics.specs.declared.Effect.{Effect}
+use Rattle.semantics.specs.Effects.{SavedContext, divided, effect_of}
+use Rattle.semantics.specs.Stretches.{changed, after, received, effect_at, uncounted_on, uncounted, landed, settled, going_on, counted_from, stretch}
+use Rattle.semantics.specs.Machine.{numbered_word, machine_kind}
+use Rattle.semantics.proofs.Waiting.{get-set_other}
+use Rattle.engine_core.specs.Steps.{Ran}
 
 -- registers that do not pass are as they were
 abbrev pub Keeps : (ℕ → Bool) → List ℕ → List ℕ → Type 0
@@ -21,99 +27,112 @@ abbrev pub passes : (ℕ → Bool) → Option PReg → Bool
 passes may None = true
 passes may (Some r) = may r.0
 
--- since a moment with this file other registers are as they were, and a completion will write one that passes
-pub record IsConfined (may : ℕ → Bool) (before : List ℕ) (x : Running) : Type 0 where
-  pub keeps : Keeps may before x.file
-  pub pending : passes may x.pending ≡ true
+-- since a configuration with this file other registers are as they were, and a completion will write one that passes
+pub record IsConfined (may : ℕ → Bool) (before : List ℕ) (x : Ran) : Type 0 where
+  pub keeps : Keeps may before x.values
+  pub pending : passes may x.kept.pending ≡ true
+
+abbrev ChangePasses : (ℕ → Bool) → Change PReg → Type 0
+ChangePasses may Nothing = Unit {0}
+ChangePasses may (Register to value) = may to.0 ≡ true
+
+abbrev StopPasses : (ℕ → Bool) → Option (Stopped PReg) → Type 0
+StopPasses may None = Unit {0}
+StopPasses may (Some s) = passes may s.pending ≡ true
 
 -- an effect writes, now or at its completion, a register that passes
-abbrev EffectPasses : (ℕ → Bool) → Effect PReg → Type 0
-EffectPasses may (Onward None next) = Unit
-EffectPasses may (Onward (Some w) next) = may (w.0).0 ≡ true
-EffectPasses may (Ends why pending next) = passes may pending ≡ true
+record EffectPasses (may : ℕ → Bool) (e : Effect PReg) : Type 0 where
+  change : ChangePasses may e.change
+  stopped : StopPasses may e.stopped
 
 keeps_set : (may : ℕ → Bool) (before file : List ℕ) (r v : ℕ) → may r ≡ true → Keeps may before file → Keeps may before (slice_set file r v)
 keeps_set may before file r v passed was q fails =
     get-set_other file r q v (λ same. let e : may q ≡ may r = ap may same in cc) ∙ was q fails
 
-keeps_write : (may : ℕ → Bool) (before : List ℕ) (x : Running) (write : Option (PReg × ℕ)) (next : ℕ) → EffectPasses may (Onward write next) → IsConfined may before x → IsConfined may before (record x { at = next; file = write_all x.file write })
-keeps_write may before x None next passed was = record { keeps = was.keeps; pending = was.pending }
-keeps_write may before x (Some w) next passed was =
-    record { keeps = keeps_set may before x.file (w.0).0 w.1 passed was.keeps; pending = was.pending }
+change_keeps : (may : ℕ → Bool) (before : List ℕ) (x : Ran) (ch : Change PReg) → ChangePasses may ch → IsConfined may before x → IsConfined may before (changed machine_kind ch x)
+change_keeps may before x Nothing passed was = was
+change_keeps may before x (Register to value) passed was =
+    record { keeps = keeps_set may before x.values to.0 value passed was.keeps; pending = was.pending }
+
+after_keeps : (may : ℕ → Bool) (before : List ℕ) (x : Ran) (e : Effect PReg) → EffectPasses may e → IsConfined may before x → IsConfined may before (after machine_kind e x)
+after_keeps may before x e passed was =
+    let now = change_keeps may before x e.change passed.change was in
+    record { keeps = now.keeps; pending = now.pending }
 
 quotient_passes : (may : ℕ → Bool) (q : Option ℕ) (to : PReg) (line at : ℕ) → may to.0 ≡ true → EffectPasses may (divided q to line at)
-quotient_passes may None to line at passed = refl
-quotient_passes may (Some v) to line at passed = passed
+quotient_passes may None to line at passed = record { change = tt; stopped = refl }
+quotient_passes may (Some v) to line at passed = record { change = passed; stopped = tt }
 
-effect_passes : (may : ℕ → Bool) (c line : ℕ) (i : Instr PReg) (read : PReg → ℕ) (at : ℕ) → passes may (written_by i) ≡ true → EffectPasses may (effect_of c line i read at)
-effect_passes may c line (Li to n) read at passed = passed
-effect_passes may c line (Mov to from) read at passed = passed
-effect_passes may c line (Alu op to a b) read at passed = passed
-effect_passes may c line (Div op to a b) read at passed =
-    quotient_passes may (quotient_of op (read a) (read b)) to line at passed
-effect_passes may c line (Ctx to) read at passed = passed
-effect_passes may c line (Jmp target) read at passed = tt
-effect_passes may c line (Branch test a b target) read at passed = tt
-effect_passes may c line (Load to address) read at passed = passed
-effect_passes may c line (Store address from) read at passed = refl
-effect_passes may c line Yield read at passed = refl
-effect_passes may c line (Recv to channel) read at passed = passed
-effect_passes may c line (Send channel from) read at passed = refl
-effect_passes may c line Halt read at passed = refl
+effect_passes : (may : ℕ → Bool) (c line : ℕ) (i : Instr PReg) (read : PReg → ℕ) (memory : List ℕ) (k : SavedContext PReg) → passes may (written_by i) ≡ true → EffectPasses may (effect_of c line i read memory k)
+effect_passes may c line (Li to n) read memory k passed = record { change = passed; stopped = tt }
+effect_passes may c line (Mov to from) read memory k passed = record { change = passed; stopped = tt }
+effect_passes may c line (Alu op to a b) read memory k passed = record { change = passed; stopped = tt }
+effect_passes may c line (Div op to a b) read memory k passed =
+    quotient_passes may (quotient_of op (read a) (read b)) to line k.at passed
+effect_passes may c line (Ctx to) read memory k passed = record { change = passed; stopped = tt }
+effect_passes may c line (Jmp target) read memory k passed = record { change = tt; stopped = tt }
+effect_passes may c line (Branch test a b target) read memory k passed = record { change = tt; stopped = tt }
+effect_passes may c line (Load to address) read memory k passed = record { change = tt; stopped = passed }
+effect_passes may c line (Store address from) read memory k passed = record { change = tt; stopped = refl }
+effect_passes may c line Yield read memory k passed = record { change = tt; stopped = refl }
+effect_passes may c line (Recv to channel) read memory k passed = record { change = tt; stopped = passed }
+effect_passes may c line (Send channel from) read memory k passed = record { change = tt; stopped = refl }
+effect_passes may c line Halt read memory k passed = record { change = tt; stopped = refl }
 
-word_passes : (may : ℕ → Bool) (c : ℕ) (o : Option Word) (read : PReg → ℕ) (at : ℕ) → ((w : Word) → o ≡ Some w → passes may (written_by w.instr) ≡ true) → EffectPasses may (effect_at c (option_map numbered_word o) read at)
-word_passes may c None read at passed = refl
-word_passes may c (Some w) read at passed = effect_passes may c w.line w.instr read at (passed w refl)
+module _ (may : ℕ → Bool) (before : List ℕ) (c : ℕ) (memory : List ℕ) where
+  abbrev Goes : Ran → Type 0
+  Goes x = IsConfined may before x
 
--- words that are not counted
-settles_at : (may : ℕ → Bool) (before : List ℕ) (rest : Running → Running) (counted : Bool) (i : Instr PReg) (x : Running) → passes may (written_by i) ≡ true → ((y : Running) → IsConfined may before y → IsConfined may before (rest y)) → IsConfined may before x → IsConfined may before (settle_at rest counted i x)
-settles_at may before rest true i x passed goes was = was
-settles_at may before rest false (Mov to from) x passed goes was =
-    goes _ (record { keeps = keeps_set may before x.file to.0 (read_in x.file from) passed was.keeps; pending = was.pending })
-settles_at may before rest false (Alu op to a b) x passed goes was =
-    goes _ (record { keeps = keeps_set may before x.file to.0 (alu_of op (read_in x.file a) (read_in x.file b)) passed was.keeps; pending = was.pending })
-settles_at may before rest false (Jmp target) x passed goes was = record { keeps = was.keeps; pending = was.pending }
-settles_at may before rest false (Li to n) x passed goes was = was
-settles_at may before rest false (Div op to a b) x passed goes was = was
-settles_at may before rest false (Ctx to) x passed goes was = was
-settles_at may before rest false (Branch test a b target) x passed goes was = was
-settles_at may before rest false (Load to address) x passed goes was = was
-settles_at may before rest false (Store address from) x passed goes was = was
-settles_at may before rest false Yield x passed goes was = was
-settles_at may before rest false (Recv to channel) x passed goes was = was
-settles_at may before rest false (Send channel from) x passed goes was = was
-settles_at may before rest false Halt x passed goes was = was
+  either : (b : Bool) (y z : Ran) → Goes y → Goes z → Goes (if b then y else z)
+  either true y z first second = first
+  either false y z first second = second
 
-settles : (may : ℕ → Bool) (before : List ℕ) (ws : List Word) (x : Running) → Each ws (λ w. passes may (written_by w.instr) ≡ true) → IsConfined may before x → IsConfined may before (settle ws x)
-settles may before [] x passed was = was
-settles may before (w ∷ ws) x passed was =
-    settles_at may before (settle ws) w.counted w.instr x (passed 0 w refl) (λ y now. settles may before ws y (λ i v is. passed (suc i) v is) now) was
+  word_passes : (o : Option Word) (x : Ran) → ((w : Word) → o ≡ Some w → passes may (written_by w.instr) ≡ true) → EffectPasses may (effect_at machine_kind c memory (option_map numbered_word o) x)
+  word_passes None x passed = record { change = tt; stopped = refl }
+  word_passes (Some w) x passed = effect_passes may c w.line w.instr _ memory x.kept (passed w refl)
 
-each_dropped : {P : Word → Type 0} (n : ℕ) (ws : List Word) → Each ws P → Each (drop n ws) P
-each_dropped zero ws each = each
-each_dropped (suc n) [] each = each
-each_dropped (suc n) (w ∷ ws) each = each_dropped n ws (λ i v is. each (suc i) v is)
+  -- words that are not counted
+  uncounted_goes : (rest jump : Ran → Ran) (x : Ran) (e : Effect PReg) (o : Option (Stopped PReg)) → ((y : Ran) → Goes y → Goes (rest y)) → ((y : Ran) → Goes y → Goes (jump y)) → EffectPasses may e → Goes x → Goes (uncounted_on machine_kind c memory rest jump x e o)
+  uncounted_goes rest jump x e (Some s) goes jumps passed was = was
+  uncounted_goes rest jump x e None goes jumps passed was =
+      let now = after_keeps may before x e passed was in
+      either (e.next == x.kept.at + 1) (rest (after machine_kind e x)) (jump (after machine_kind e x)) (goes _ now) (jumps _ now)
 
-settled_confined : (may : ℕ → Bool) (before : List ℕ) (ws : List Word) (x : Running) → Each ws (λ w. passes may (written_by w.instr) ≡ true) → IsConfined may before x → IsConfined may before (settled ws x)
-settled_confined may before ws x passed was = settles may before (drop x.at ws) x (each_dropped x.at ws passed) was
+  all_uncounted : (jump : Ran → Ran) (ws : List Word) (x : Ran) → ((y : Ran) → Goes y → Goes (jump y)) → Each ws (λ w. passes may (written_by w.instr) ≡ true) → Goes x → Goes (uncounted machine_kind c memory jump ws x)
+  all_uncounted jump [] x jumps passed was = was
+  all_uncounted jump (w ∷ ws) x jumps passed was =
+      let e : Effect PReg = effect_at machine_kind c memory (Some (numbered_word w)) x in
+      either w.counted x _ was
+      (uncounted_goes (uncounted machine_kind c memory jump ws) jump x e e.stopped (λ y now. all_uncounted jump ws y jumps (λ i v is. passed (suc i) v is) now) jumps (word_passes (Some w) x (λ v is. passed zero v is)) was)
 
--- counted words
-advances_on : (may : ℕ → Bool) (before : List ℕ) (c : ℕ) (ws : List Word) (n : ℕ) (x : Running) (e : Effect PReg) → EffectPasses may e → ((y : Running) → IsConfined may before y → IsConfined may before (counted_from c ws n (settled ws y)).state) → IsConfined may before x → IsConfined may before (advance_on (λ y. counted_from c ws n (settled ws y)) x e).state
-advances_on may before c ws n x (Onward write next) passed goes was = goes _ (keeps_write may before x write next passed was)
-advances_on may before c ws n x (Ends why pending next) passed goes was = record { keeps = was.keeps; pending = passed }
+  each_dropped : {P : Word → Type 0} (n : ℕ) (ws : List Word) → Each ws P → Each (drop n ws) P
+  each_dropped zero ws each = each
+  each_dropped (suc n) [] each = each
+  each_dropped (suc n) (w ∷ ws) each = each_dropped n ws (λ i v is. each (suc i) v is)
 
-counts : (may : ℕ → Bool) (before : List ℕ) (c : ℕ) (ws : List Word) (n : ℕ) (x : Running) → Each ws (λ w. passes may (written_by w.instr) ≡ true) → IsConfined may before x → IsConfined may before (counted_from c ws n x).state
-counts may before c ws zero x passed was = was
-counts may before c ws (suc n) x passed was =
-    advances_on may before c ws n x _ (word_passes may c (slice_get ws x.at) (read_in x.file) x.at (λ w is. passed x.at w is)) (λ y now. counts may before c ws n (settled ws y) passed (settled_confined may before ws y passed now)) was
+  module _ (ws : List Word) (passed : Each ws (λ w. passes may (written_by w.instr) ≡ true)) where
+    settled_goes : (x : Ran) → Goes x → Goes (settled machine_kind c memory ws x)
+    settled_goes x was =
+        all_uncounted (landed machine_kind c memory ws) (drop x.kept.at ws) x (λ y now. all_uncounted (λ z. z) (drop y.kept.at ws) y (λ z done. done) (each_dropped y.kept.at ws passed) now) (each_dropped x.kept.at ws passed) was
 
-pub advance_confined : (may : ℕ → Bool) (before : List ℕ) (c : ℕ) (ws : List Word) (n : ℕ) (x : Running) → Each ws (λ w. passes may (written_by w.instr) ≡ true) → IsConfined may before x → IsConfined may before (advance c ws n x).state
-advance_confined may before c ws n x passed was =
-    counts may before c ws n (settled ws x) passed (settled_confined may before ws x passed was)
+    -- counted words
+    going : (n : ℕ) (x : Ran) (o : Option (Stopped PReg)) → StopPasses may o → ((y : Ran) → Goes y → Goes (counted_from machine_kind c memory ws n (settled machine_kind c memory ws y)).state) → Goes x → Goes (going_on (λ y. counted_from machine_kind c memory ws n (settled machine_kind c memory ws y)) x o).state
+    going n x None stops goes was = goes x was
+    going n x (Some s) stops goes was = record { keeps = was.keeps; pending = stops }
+
+    counts : (n : ℕ) (x : Ran) → Goes x → Goes (counted_from machine_kind c memory ws n x).state
+    counts zero x was = was
+    counts (suc n) x was =
+        let e : Effect PReg = effect_at machine_kind c memory (option_map numbered_word (slice_get ws x.kept.at)) x in
+        let passes : EffectPasses may e = word_passes (slice_get ws x.kept.at) x (λ w is. passed x.kept.at w is) in
+        going n (after machine_kind e x) e.stopped passes.stopped (λ y now. counts n (settled machine_kind c memory ws y) (settled_goes y now)) (after_keeps may before x e passes was)
+
+    pub stretch_confined : (n : ℕ) (x : Ran) → Goes x → Goes (stretch machine_kind c memory ws n x).state
+    stretch_confined n x was = counts n (settled machine_kind c memory ws x) (settled_goes x was)
 
 -- a completion
-pub received_confined : (may : ℕ → Bool) (x : Running) (o : Option PReg) (word : Option ℕ) → x.pending ≡ o → passes may o ≡ true → IsConfined may x.file (received_word x o word)
+pub received_confined : (may : ℕ → Bool) (x : Ran) (o : Option PReg) (word : Option ℕ) → x.kept.pending ≡ o → passes may o ≡ true → IsConfined may x.values (received machine_kind o word x)
 received_confined may x (Some r) (Some v) is passed =
-    record { keeps = keeps_set may x.file x.file r.0 v passed (λ q fails. refl); pending = refl }
+    record { keeps = keeps_set may x.values x.values r.0 v passed (λ q fails. refl); pending = refl }
 received_confined may x (Some r) None is passed = record { keeps = λ q fails. refl; pending = ap (passes may) is ∙ passed }
 received_confined may x None word is passed = record { keeps = λ q fails. refl; pending = ap (passes may) is ∙ passed }

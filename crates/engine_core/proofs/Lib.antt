@@ -1,4 +1,4 @@
-pub mod StepLemmas
+pub mod Settling
 pub mod Opening
 pub mod Confined
 pub mod SegmentLemmas

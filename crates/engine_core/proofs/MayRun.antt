@@ -12,9 +12,9 @@ use Rattle.micro_isa.specs.declared.image.Image.{Image}
 use Rattle.micro_isa.specs.Columns.{written_by}
 use Rattle.micro_isa.specs.Formed.{Each, all_below, option_below, registers_in, target_of, lies_in, writes_within, IsFormedCode}
 use Rattle.world.specs.declared.event.Event.TheVariants.{Run}
-use Rattle.meanings.specs.Core.{Core, illegal_of}
-use Rattle.meanings.specs.Machine.{words_of}
-use Rattle.run_core.proofs.Segments.{is_there}
+use Rattle.semantics.specs.Core.{Core, illegal_of}
+use Rattle.semantics.specs.Machine.{words_of}
+use Rattle.run_state.proofs.Segments.{is_there}
 use Rattle.engine_core.specs.declared.place.ContextPlace.{ContextPlace}
 use Rattle.engine_core.specs.Steps.{TargetBelow, AllTargets}
 use Rattle.engine_core.specs.EngineState.{is_private, may_write, IsContext, IsSound}

@@ -5,10 +5,10 @@ use Rattle.micro_isa.specs.declared.image.Image.{Image}
 use Rattle.micro_isa.specs.Formed.{IsFormedImage, writes_within}
 use Rattle.std.proofs.lemmas.List.{length-replicate}
 use Rattle.world.specs.declared.event.Phase.TheVariants.{Ready}
-use Rattle.meanings.specs.Machine.{machine_open}
-use Rattle.meanings.specs.Core.{Core, opening_core}
+use Rattle.semantics.specs.Machine.{machine_open}
+use Rattle.semantics.specs.Core.{Core, opening_core}
 use Rattle.engine_core.specs.declared.place.ContextPlace.{ContextPlace}
-use Rattle.engine_core.specs.EngineState.{kept_of, moment_of, IsSound}
+use Rattle.engine_core.specs.EngineState.{kept_of, config_of, IsSound}
 
 start_of : (n c : ℕ) (k : ContextPlace) → slice_get (replicate n (record { at = 0; pending = None })) c ≡ Some k → (let s : ContextPlace = record { at = 0; pending = None } in s) ≡ k
 start_of zero c k h = absurd (cc)
@@ -39,12 +39,12 @@ opens_sound m image bound core ks formed is_image is_core is_ks =
     subst (λ x. IsSound x core ks) (sym is_image) (subst (λ x. IsSound m x ks) (sym is_core) (subst (λ x. IsSound m (opening_core m.setting (length m.contexts) bound) x) (sym is_ks) (at_first_words m bound formed)))
 
 -- an engine that opens is the opening of the machine run
-opens_as : (m : Image) (bound : ℕ) → moment_of (record { image = m; core = opening_core m.setting (length m.contexts) bound; file = replicate m.file 0; contexts = replicate (length m.contexts) (record { at = 0; pending = None }) }) ≡ machine_open m bound
+opens_as : (m : Image) (bound : ℕ) → config_of (record { image = m; core = opening_core m.setting (length m.contexts) bound; file = replicate m.file 0; contexts = replicate (length m.contexts) (record { at = 0; pending = None }) }) ≡ machine_open m bound
 opens_as m bound = λ i. record {
   core = opening_core m.setting (length m.contexts) bound;
   state = record { file = replicate m.file 0; contexts = λ c. kept_start (length m.contexts) c i };
 }
 
-pub opens : (m image : Image) (bound : ℕ) (core : Core) (file : List ℕ) (ks : List ContextPlace) → image ≡ m → core ≡ opening_core m.setting (length m.contexts) bound → file ≡ replicate m.file 0 → ks ≡ replicate (length m.contexts) (record { at = 0; pending = None }) → moment_of (record { image = image; core = core; file = file; contexts = ks }) ≡ machine_open m bound
+pub opens : (m image : Image) (bound : ℕ) (core : Core) (file : List ℕ) (ks : List ContextPlace) → image ≡ m → core ≡ opening_core m.setting (length m.contexts) bound → file ≡ replicate m.file 0 → ks ≡ replicate (length m.contexts) (record { at = 0; pending = None }) → config_of (record { image = image; core = core; file = file; contexts = ks }) ≡ machine_open m bound
 opens m image bound core file ks is_image is_core is_file is_ks =
-    (λ i. moment_of (record { image = is_image i; core = is_core i; file = is_file i; contexts = is_ks i })) ∙ opens_as m bound
+    (λ i. config_of (record { image = is_image i; core = is_core i; file = is_file i; contexts = is_ks i })) ∙ opens_as m bound

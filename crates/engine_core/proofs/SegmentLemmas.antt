@@ -13,15 +13,16 @@ use Rattle.world.specs.declared.event.SegmentEnd.{SegmentEnd}
 use Rattle.world.specs.declared.event.Output.{Output}
 use Rattle.world.specs.declared.event.Event.TheVariants.{Run}
 use Rattle.world.specs.declared.event.Seen.TheVariants.{Ran}
-use Rattle.meanings.specs.Core.{Core, Completed, completion, completed, finished, end_after, steps_left, illegal_of}
-use Rattle.meanings.specs.Events.{after_stretch, happens}
-use Rattle.meanings.specs.Machine.{Machine, received_word, machine_back, words_of, words_in, advance, machine_side}
-use Rattle.meanings.proofs.Waiting.{get-set_same, get-set_other}
-use Rattle.run_core.proofs.Segments.{left_after, is_there}
+use Rattle.semantics.specs.Core.{Core, Completed, completion, completed, finished, end_after, steps_left, illegal_of}
+use Rattle.semantics.specs.Events.{after_stretch, fire}
+use Rattle.semantics.specs.Stretches.{received, stretch_in, stretch, stretch_of}
+use Rattle.semantics.specs.Machine.{Machine, machine_kind, with_active, words_of, words_in, machine_semantics}
+use Rattle.semantics.proofs.Waiting.{get-set_same, get-set_other}
+use Rattle.run_state.proofs.Segments.{is_there}
 use Rattle.engine_core.specs.declared.place.ContextPlace.{ContextPlace}
 use Rattle.engine_core.specs.declared.words.Ended.{Ended}
-use Rattle.engine_core.specs.Steps.{gone_seen}
-use Rattle.engine_core.specs.EngineState.{kept_of, moment_of, IsSound}
+use Rattle.engine_core.specs.Steps.{run_at, gone_seen}
+use Rattle.engine_core.specs.EngineState.{kept_of, config_of, IsSound}
 
 -- the contexts after a write are the contexts with one replaced
 kept_after : (ks : List ContextPlace) (c : ℕ) (k : ContextPlace) → c < length ks → (d : ℕ) (b : Bool) → (d == c) ≡ b → (if b then record { at = k.at; pending = k.pending } else kept_of (slice_get ks d)) ≡ kept_of (slice_get (slice_set ks c k) d)
@@ -30,17 +31,16 @@ kept_after ks c k lt d true is =
 kept_after ks c k lt d false is = ap kept_of (sym (get-set_other ks c d k (eqb-false d c is)))
 
 -- what the engine does in a segment, step by step, is what happens to the machine
-pub segment_is : (image : Image) (core core1 core2 : Core) (file file1 file2 : List ℕ) (ks : List ContextPlace) (c left : ℕ) (k : ContextPlace) (words : List Word) (received : Option ℕ) (sent : Option Output) (pending : Option PReg) (ended : Ended) (fin : SegmentEnd) → fin ≡ end_after core1.world.memory ended.why → completion core c ≡ record { received = received; sent = sent; world = core1.world } → core1 ≡ completed core c → slice_get ks c ≡ Some k → words_of image c ≡ words → record { at = k.at; file = file1; pending = pending } ≡ received_word (record { at = k.at; file = file; pending = k.pending }) k.pending received → left ≡ steps_left core1 → gone_seen file2 ended ≡ advance c words left (record { at = k.at; file = file1; pending = pending }) → core2 ≡ finished core1 c ended.steps ended.why → happens (machine_side image) (moment_of (record { image = image; core = core; file = file; contexts = ks })) (Run c) ≡ (moment_of (record { image = image; core = core2; file = file2; contexts = slice_set ks c (record { at = ended.at; pending = ended.pending }) }), Ran (record { steps = ended.steps; end = fin; sent = sent }))
-segment_is image core core1 core2 file file1 file2 ks c left k words received sent pending ended fin fin_is done core1_is at code delivered is_left went fin2 =
+pub segment_is : (image : Image) (core core1 core2 : Core) (file file1 file2 : List ℕ) (ks : List ContextPlace) (c left : ℕ) (k : ContextPlace) (words : List Word) (word : Option ℕ) (sent : Option Output) (pending : Option PReg) (ended : Ended) (fin : SegmentEnd) (memory : List ℕ) → memory ≡ core1.world.memory → fin ≡ end_after core1.world.memory ended.why → completion core c ≡ record { received = word; sent = sent; world = core1.world } → core1 ≡ completed core c → slice_get ks c ≡ Some k → words_of image c ≡ words → run_at k.at file1 pending ≡ received machine_kind k.pending word (run_at k.at file k.pending) → left ≡ steps_left core1 → gone_seen file2 ended ≡ stretch machine_kind c memory words left (run_at k.at file1 pending) → core2 ≡ finished core1 c ended.steps ended.why → fire (machine_semantics image) (config_of (record { image = image; core = core; file = file; contexts = ks })) (Run c) ≡ (config_of (record { image = image; core = core2; file = file2; contexts = slice_set ks c (record { at = ended.at; pending = ended.pending }) }), Ran (record { steps = ended.steps; end = fin; sent = sent }))
+segment_is image core core1 core2 file file1 file2 ks c left k words word sent pending ended fin memory is_memory fin_is done core1_is at code delivered is_left went fin2 =
     let st : Machine = record { file = file; contexts = λ d. kept_of (slice_get ks d) } in
-    let after : Completed = record { received = received; sent = sent; world = core1.world } in
-    let same : steps_left core ≡ left = left_after core core1 c left core1_is is_left in
+    let after : Completed = record { received = word; sent = sent; world = core1.world } in
     let k' : ContextPlace = record { at = ended.at; pending = ended.pending } in
     let lt = slice_get_within ks c k at in
-    (λ i. after_stretch (sym core1_is i) c (done i) (machine_side image st c (done i).received (same i)))
-    ∙ (λ i. after_stretch core1 c after (machine_back st c (advance c (code i) left (received_word (record { at = (kept_of (at i)).at; file = file; pending = (kept_of (at i)).pending }) (kept_of (at i)).pending received))))
-    ∙ ap (λ r. after_stretch core1 c after (machine_back st c (advance c words left r))) (sym delivered)
-    ∙ ap (λ g. after_stretch core1 c after (machine_back st c g)) (sym went)
+    (λ i. after_stretch (sym core1_is i) c (done i) (machine_semantics image st c (record { word = (done i).received; memory = (sym core1_is i).world.memory; left = (ap steps_left (sym core1_is) ∙ sym is_left) i })))
+    ∙ (λ i. after_stretch core1 c after (stretch_in (with_active st c) (stretch_of machine_kind c (code i) (record { word = word; memory = sym is_memory i; left = left }) (record { kept = kept_of (at i); values = file }))))
+    ∙ ap (λ r. after_stretch core1 c after (stretch_in (with_active st c) (stretch machine_kind c memory words left r))) (sym delivered)
+    ∙ ap (λ g. after_stretch core1 c after (stretch_in (with_active st c) g)) (sym went)
     ∙ (λ i. (record { core = sym fin2 i; state = record { file = file2; contexts = λ d. kept_after ks c k' lt d (d == c) refl i } }, Ran (record { steps = ended.steps; end = sym fin_is i; sent = sent })))
 
 -- the engine stays sound where a context comes to a place within its words

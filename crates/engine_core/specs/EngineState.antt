@@ -1,11 +1,13 @@
--- The engine's state, and the moment of a run that it stands for.
+-- The engine's state, and the configuration of a run that it stands for.
 use Rattle.std.specs.Prelude.{◌≡◌, ◌≤◌, ℕ, List, length, Bool, true, false, ◌||◌, Option, Some, None, slice_get}
 use Rattle.micro_isa.specs.Formed.{lies_in, writes_within, IsFormedImage}
+use Rattle.micro_isa.specs.declared.image.PReg.{PReg}
 use Rattle.micro_isa.specs.declared.image.Code.{Code}
 use Rattle.micro_isa.specs.declared.image.Image.{Image}
-use Rattle.meanings.specs.Core.{Core}
-use Rattle.meanings.specs.Events.{Moment}
-use Rattle.meanings.specs.Machine.{Kept, Machine}
+use Rattle.semantics.specs.Core.{Core}
+use Rattle.semantics.specs.Events.{Config}
+use Rattle.semantics.specs.Effects.{SavedContext}
+use Rattle.semantics.specs.Machine.{Machine}
 use Rattle.engine_core.specs.declared.place.ContextPlace.{ContextPlace}
 
 -- the image that is run, the core of the run, the register file, and where the contexts stand
@@ -15,13 +17,13 @@ pub record EngineState : Type 0 where
   pub file : List ℕ
   pub contexts : List ContextPlace
 
-abbrev pub kept_of : Option ContextPlace → Kept
+abbrev pub kept_of : Option ContextPlace → SavedContext PReg
 kept_of None = record { at = 0; pending = None }
 kept_of (Some k) = record { at = k.at; pending = k.pending }
 
--- the moment of a machine run that an engine stands for
-abbrev pub moment_of : EngineState → Moment Machine
-moment_of e = record {
+-- the configuration of a machine run that an engine stands for
+abbrev pub config_of : EngineState → Config Machine
+config_of e = record {
   core = e.core;
   state = record { file = e.file; contexts = λ c. kept_of (slice_get e.contexts c) };
 }

@@ -1,18 +1,20 @@
-ghost use Rattle.std.specs.Prelude.{◌≡◌, ◌+◌, ◌≤◌, IfOk, None, replicate};
+ghost use Rattle.std.specs.Prelude.{◌≡◌, ◌+◌, ◌≤◌, ℕ, IfOk, None, replicate};
 ghost use Rattle.micro_isa.specs.Formed.{IsFormedImage};
 ghost use Rattle.world.specs.WorldState.{can_feed};
 ghost use Rattle.world.specs.declared.event.Event.TheVariants.{Run as RunOf, Feed as FeedOf, Unplug as UnplugOf};
 ghost use Rattle.world.specs.declared.event.Seen.TheVariants.{Ran as RanOf, Fed as FedOf, Unplugged as UnpluggedOf};
-ghost use Rattle.meanings.specs.Core.{illegal_of, shown_core, steps_left};
-ghost use Rattle.meanings.specs.Events.{happens};
-ghost use Rattle.meanings.specs.Machine.{Machine, machine_side, machine_open, received_word, words_of};
-ghost use Rattle.engine_core.specs.EngineState.{moment_of, IsSound, LeavesOthers};
-ghost use Rattle.run_core.specs.Segments.{GoesOn};
+ghost use Rattle.semantics.specs.Core.{illegal_of, shown_core, steps_left};
+ghost use Rattle.semantics.specs.Events.{fire};
+ghost use Rattle.semantics.specs.Stretches.{received};
+ghost use Rattle.semantics.specs.Machine.{Machine, machine_kind, machine_semantics, machine_open, words_of};
+ghost use Rattle.engine_core.specs.EngineState.{config_of, IsSound, LeavesOthers};
+ghost use Rattle.engine_core.specs.Steps.{run_at};
+ghost use Rattle.run_state.specs.Segments.{GoesOn};
 
 use crate::place::ContextPlace;
 use crate::words::{advance, write};
 use micro_isa::{Image, NoMemory, PReg, Word};
-use run_core::{Interpreter, RunCore};
+use run_state::{Interpreter, RunCore};
 use std::alloc::Global;
 use std::marker::Model;
 use world::{End, Event, Illegal, Output, Segment, View};
@@ -43,7 +45,7 @@ impl Engine {
         requires formed { IsFormedImage image.now }
         requires bound { bound ≤ 1048576 }
         ensures image { IfOk result (λ engine. engine.image ≡ image.now) }
-        ensures opening { IfOk result (λ engine. moment_of engine ≡ machine_open image.now bound) }
+        ensures opening { IfOk result (λ engine. config_of engine ≡ machine_open image.now bound) }
     {
         let core = RunCore::open(alloc, &image.setting, image.contexts.len(), bound)?;
         let file = zeros(alloc, image.file)?;
@@ -110,7 +112,7 @@ impl Engine {
     pub fn feed(&mut self, channel: u8, word: u32)
         requires legal { illegal_of self.old.core (FeedOf channel word) ≡ None }
         ensures image { self.new.image ≡ self.old.image }
-        ensures happens { happens (machine_side self.old.image) (moment_of self.old) (FeedOf channel word) ≡ (moment_of self.new, FedOf) }
+        ensures fire { fire (machine_semantics self.old.image) (config_of self.old) (FeedOf channel word) ≡ (config_of self.new, FedOf) }
     {
         self.core.feed(channel, word);
     }
@@ -119,9 +121,9 @@ impl Engine {
 impl Interpreter for Engine {
     ghost State = { Machine };
 
-    ghost side = { λ e. machine_side e.image };
+    ghost rules = { λ e. machine_semantics e.image };
 
-    ghost moment = { moment_of };
+    ghost config = { config_of };
 
     fn contexts(&self) -> u32 {
         self.contexts.len() as u32
@@ -138,7 +140,7 @@ impl Interpreter for Engine {
     fn segment(&mut self, context: u32) -> Segment
         requires legal { illegal_of self.old.core (RunOf context) ≡ None }
         ensures image { self.new.image ≡ self.old.image }
-        ensures happens { happens (machine_side self.old.image) (moment_of self.old) (RunOf context) ≡ (moment_of self.new, RanOf result) }
+        ensures fire { fire (machine_semantics self.old.image) (config_of self.old) (RunOf context) ≡ (config_of self.new, RanOf result) }
         ensures goes_on { GoesOn self.old.core self.new.core }
         ensures elsewhere { LeavesOthers self.old.image context self.old.file self.new.file }
     {
@@ -158,7 +160,7 @@ impl Interpreter for Engine {
     fn unplug(&mut self, channel: u8)
         requires legal { illegal_of self.old.core (UnplugOf channel) ≡ None }
         ensures image { self.new.image ≡ self.old.image }
-        ensures happens { happens (machine_side self.old.image) (moment_of self.old) (UnplugOf channel) ≡ (moment_of self.new, UnpluggedOf) }
+        ensures fire { fire (machine_semantics self.old.image) (config_of self.old) (UnplugOf channel) ≡ (config_of self.new, UnpluggedOf) }
     {
         self.core.unplug(channel);
     }
@@ -198,15 +200,16 @@ fn segment_of(
     ensures sound { IsSound image.now core.new contexts.new }
     ensures goes_on { GoesOn core.old core.new }
     ensures elsewhere { LeavesOthers image.now context file.old file.new }
-    ensures happens { happens (machine_side image.now) (moment_of (record { image = image.now; core = core.old; file = file.old; contexts = contexts.old })) (RunOf context)
-        ≡ (moment_of (record { image = image.now; core = core.new; file = file.new; contexts = contexts.new }), RanOf result) }
+    ensures fire { fire (machine_semantics image.now) (config_of (record { image = image.now; core = core.old; file = file.old; contexts = contexts.old })) (RunOf context)
+        ≡ (config_of (record { image = image.now; core = core.new; file = file.new; contexts = contexts.new }), RanOf result) }
 {
     let done = core.complete(context);
     let place = contexts[context as usize];
-    let pending = deliver(file, place.at, place.pending, done.received);
+    let pending = deliver(file, place.pending, done.received);
     let left = core.steps_left();
     let words = words_of(image, context);
-    let ended = advance(context, words, file, place.at, pending, left);
+    let memory = core.memory();
+    let ended = advance(context, words, file, memory, place.at, pending, left);
     contexts[context as usize] = ContextPlace {
         at: ended.at,
         pending: ended.pending,
@@ -229,10 +232,10 @@ fn words_of(image: &Image, context: u32) -> &[Word]
 }
 
 /// Hands the word of a completion to the register that waits for it.
-fn deliver(file: &mut [u32], at: u32, pending: Option<PReg>, received: Option<u32>) -> Option<PReg>
-    ensures { record { at = at; file = file.new; pending = result } ≡ received_word (record { at = at; file = file.old; pending = pending }) pending received }
+fn deliver(file: &mut [u32], pending: Option<PReg>, word: Option<u32>) -> Option<PReg>
+    ensures { (at : ℕ) → run_at at file.new result ≡ received machine_kind pending word (run_at at file.old pending) }
 {
-    match (pending, received) {
+    match (pending, word) {
         (Some(register), Some(word)) => {
             write(file, register, word);
             None

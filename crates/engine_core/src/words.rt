@@ -1,30 +1,17 @@
 //! The words of one context, up to its next stop.
 
-ghost use Rattle.std.specs.Prelude.{◌≡◌, ◌+◌, ◌<◌, ◌≤◌, Option, Some, None, length, slice_get, slice_set, false, if◌then◌else◌};
+ghost use Rattle.std.specs.Prelude.{◌≡◌, ◌+◌, ◌<◌, ◌≤◌, Option, None, length, drop, slice_get, slice_set, false, if◌then◌else◌};
 ghost use Rattle.micro_isa.specs.declared.image.PReg.{PReg as Register};
-ghost use Rattle.meanings.specs.Core.{is_cut};
-ghost use Rattle.meanings.specs.declared.Stop.TheVariants.{Store as StoreOf, Halt as HaltOf};
-ghost use Rattle.meanings.specs.Effects.{effect_of, effect_at, divided};
-ghost use Rattle.meanings.specs.Machine.{advance, settled, read_in, word_at, write_all};
-ghost use Rattle.engine_core.specs.declared.words.Did.TheVariants.{Onward as OnwardOf, Ends as EndsOf};
-ghost use Rattle.engine_core.specs.Steps.{effect_seen, gone_seen, AllTargets, NextWithin, TargetBelow};
+ghost use Rattle.semantics.specs.Core.{is_cut};
+ghost use Rattle.semantics.specs.declared.SegmentExit.TheVariants.{Store as StoreOf};
+ghost use Rattle.semantics.specs.declared.Change.TheVariants.{Nothing as NothingOf, Register as RegisterOf};
+ghost use Rattle.semantics.specs.Effects.{effect_of, divided, onward, stops};
+ghost use Rattle.semantics.specs.Stretches.{uncounted, settled, effect_here, stretch};
+ghost use Rattle.semantics.specs.Machine.{machine_kind, read_in};
+ghost use Rattle.engine_core.specs.Steps.{Ran, run_at, written, reached, gone_seen, AllTargets, TargetBelow};
 
-use meanings::Stop;
 use micro_isa::{Instr, PReg, Word, alu, divide, test_holds};
-
-/// What one word does.
-#[derive(Clone, Copy, Debug, PartialEq, Eq)]
-pub(crate) enum Did {
-    Onward {
-        write: Option<(PReg, u32)>,
-        next: u32,
-    },
-    Ends {
-        why: Stop,
-        pending: Option<PReg>,
-        next: u32,
-    },
-}
+use semantics::{Change, Effect, SegmentExit};
 
 /// Where a stretch of words ended, and why.
 #[derive(Clone, Copy, Debug, PartialEq, Eq)]
@@ -32,7 +19,14 @@ pub(crate) struct Ended {
     pub at: u32,
     pub pending: Option<PReg>,
     pub steps: u32,
-    pub why: Stop,
+    pub why: SegmentExit,
+}
+
+/// Where a run of words that are not counted came to, and whether by a jump.
+#[derive(Clone, Copy, Debug, PartialEq, Eq)]
+struct Reached {
+    at: u32,
+    jumped: bool,
 }
 
 pub(crate) fn read(file: &[u32], register: PReg) -> u32
@@ -53,23 +47,31 @@ pub(crate) fn write(file: &mut [u32], to: PReg, value: u32)
     }
 }
 
-fn write_to(file: &mut [u32], to_write: Option<(PReg, u32)>)
-    ensures { file.new ≡ write_all file.old to_write }
+fn make(file: &mut [u32], change: Change<PReg>)
+    ensures { file.new ≡ written file.old change }
 {
-    if let Some((to, value)) = to_write {
+    if let Change::Register { to, value } = change {
         write(file, to, value);
     }
 }
 
 /// What this instruction does on this file, as the word at `at` of a context.
-fn effect(context: u32, line: u32, instr: Instr<PReg>, file: &[u32], at: u32, size: usize) -> Did
+fn effect(
+    context: u32,
+    word: Word,
+    file: &[u32],
+    memory: &[u32],
+    at: u32,
+    size: usize,
+) -> Effect<PReg>
     requires few { size < 4294967295 }
     requires within { at < size }
-    requires target { TargetBelow size instr }
-    ensures next { NextWithin size result }
-    ensures table { effect_seen result ≡ effect_of context line instr (read_in file.now) at }
+    requires target { TargetBelow size word.instr }
+    ensures next { result.next ≤ size }
+    ensures table { (pending : Option Register) → result ≡ effect_of context word.line word.instr (read_in file.now) memory.now (record { at = at; pending = pending }) }
 {
-    match instr {
+    let line = word.line;
+    match word.instr {
         Instr::Li { to, n } => written(to, n, at),
         Instr::Mov { to, from } => written(to, read(file, from), at),
         Instr::Alu { op, to, a, b } => written(to, alu(op, read(file, a), read(file, b)), at),
@@ -78,131 +80,69 @@ fn effect(context: u32, line: u32, instr: Instr<PReg>, file: &[u32], at: u32, si
             divided(quotient, to, line, at)
         }
         Instr::Ctx { to } => written(to, context, at),
-        Instr::Jmp { target } => Did::Onward {
-            write: None,
-            next: target,
-        },
+        Instr::Jmp { target } => Effect::onward(Change::Nothing, target),
         Instr::Branch { test, a, b, target } => {
             let taken = test_holds(test, read(file, a), read(file, b));
             branched(taken, target, at)
         }
         Instr::Load { to, address } => {
             let address = read(file, address);
-            stopped(Stop::Load { address, line }, Some(to), at)
+            Effect::stops(SegmentExit::Load { address, line }, Some(to), at + 1)
         }
         Instr::Store { address, from } => {
             stored(read(file, address), read(file, from), line, at)
         }
-        Instr::Yield => stopped(Stop::Yield, None, at),
-        Instr::Recv { to, channel } => stopped(Stop::Recv { channel }, Some(to), at),
+        Instr::Yield => Effect::stops(SegmentExit::Yield, None, at + 1),
+        Instr::Recv { to, channel } => Effect::stops(
+            SegmentExit::Recv { channel },
+            Some(to),
+            at + 1,
+        ),
         Instr::Send { channel, from } => {
             let word = read(file, from);
-            stopped(Stop::Send { channel, word }, None, at)
+            Effect::stops(SegmentExit::Send { channel, word }, None, at + 1)
         }
-        Instr::Halt => halted(at),
+        Instr::Halt => Effect::stops(SegmentExit::Halt, None, at),
     }
 }
 
 /// A write, after which the next word comes.
-fn written(to: PReg, value: u32, at: u32) -> Did
+fn written(to: PReg, value: u32, at: u32) -> Effect<PReg>
     requires { at < 4294967295 }
-    ensures { result ≡ OnwardOf (Some (to, value)) (at + 1) }
+    ensures { result ≡ onward (RegisterOf to value) (at + 1) }
 {
-    Did::Onward {
-        write: Some((to, value)),
-        next: at + 1,
-    }
+    Effect::onward(Change::Register { to, value }, at + 1)
 }
 
 /// The target where a jump is taken, else the next word.
-fn branched(taken: bool, target: u32, at: u32) -> Did
+fn branched(taken: bool, target: u32, at: u32) -> Effect<PReg>
     requires { at < 4294967295 }
-    ensures { result ≡ OnwardOf None (if taken then target else at + 1) }
+    ensures { result ≡ onward NothingOf (if taken then target else at + 1) }
 {
-    Did::Onward {
-        write: None,
-        next: if taken { target } else { at + 1 },
-    }
+    Effect::onward(Change::Nothing, if taken { target } else { at + 1 })
 }
 
-fn divided(quotient: Option<u32>, to: PReg, line: u32, at: u32) -> Did
+fn divided(quotient: Option<u32>, to: PReg, line: u32, at: u32) -> Effect<PReg>
     requires { at < 4294967295 }
-    ensures next { NextWithin (at + 1) result }
-    ensures table { effect_seen result ≡ divided quotient to line at }
+    ensures next { result.next ≤ at + 1 }
+    ensures table { result ≡ divided quotient to line at }
 {
     match quotient {
         Some(value) => written(to, value, at),
-        None => Did::Ends {
-            why: Stop::Divide { line },
-            pending: None,
-            next: at,
-        },
+        None => Effect::stops(SegmentExit::Divide { line }, None, at),
     }
 }
 
-/// A stop, to go on with the next word.
-fn stopped(why: Stop, pending: Option<PReg>, at: u32) -> Did
+fn stored(address: u32, word: u32, line: u32, at: u32) -> Effect<PReg>
     requires { at < 4294967295 }
-    ensures { result ≡ EndsOf why pending (at + 1) }
+    ensures { result ≡ stops (StoreOf address word line) None (at + 1) }
 {
-    Did::Ends {
-        why,
-        pending,
-        next: at + 1,
-    }
-}
-
-fn stored(address: u32, word: u32, line: u32, at: u32) -> Did
-    requires { at < 4294967295 }
-    ensures { result ≡ EndsOf (StoreOf address word line) None (at + 1) }
-{
-    let why = Stop::Store {
+    let why = SegmentExit::Store {
         address,
         word,
         line,
     };
-    stopped(why, None, at)
-}
-
-fn halted(at: u32) -> Did
-    ensures { result ≡ EndsOf HaltOf None at }
-{
-    Did::Ends {
-        why: Stop::Halt,
-        pending: None,
-        next: at,
-    }
-}
-
-/// Runs the words that are not counted, and says where the next counted word is.
-fn settle(words: &[Word], file: &mut [u32], at: u32) -> u32
-    requires few { length words.now < 4294967295 }
-    requires targets { AllTargets words.now }
-    requires within { at ≤ length words.now }
-    ensures next { result ≤ length words.now }
-    ensures settled { (pending : Option Register) → settled words.now (record { at = at; file = file.old; pending = pending }) ≡ record { at = result; file = file.new; pending = pending } }
-{
-    let mut at = at;
-    'words: while let Some(word) = words.get(at as usize) {
-        if word.counted {
-            return at;
-        }
-        match word.instr {
-            Instr::Mov { to, from } => {
-                let value = read(file, from);
-                write(file, to, value);
-                at += 1;
-            }
-            Instr::Alu { op, to, a, b } => {
-                let value = alu(op, read(file, a), read(file, b));
-                write(file, to, value);
-                at += 1;
-            }
-            Instr::Jmp { target } => return target,
-            _ => return at,
-        }
-    }
-    at
+    Effect::stops(why, None, at + 1)
 }
 
 fn word_at(words: &[Word], at: u32) -> Option<Word>
@@ -211,17 +151,64 @@ fn word_at(words: &[Word], at: u32) -> Option<Word>
     words.get(at as usize).copied()
 }
 
-/// What the word at `at` of a context does; behind the last word it is a halt.
-fn effect_at(context: u32, words: &[Word], file: &[u32], at: u32) -> Did
+/// Runs the words that are not counted, up to the next counted one, or to where one of them jumps.
+fn run_uncounted(context: u32, words: &[Word], file: &mut [u32], memory: &[u32], at: u32) -> Reached
     requires few { length words.now < 4294967295 }
     requires targets { AllTargets words.now }
     requires within { at ≤ length words.now }
-    ensures next { NextWithin (length words.now) result }
-    ensures table { effect_seen result ≡ effect_at context (word_at words.now at) (read_in file.now) at }
+    ensures next { result.at ≤ length words.now }
+    ensures reached { (jump : Ran → Ran) (pending : Option Register) → uncounted machine_kind context memory.now jump (drop at words.now) (run_at at file.old pending)
+        ≡ reached jump result.jumped (run_at result.at file.new pending) }
+{
+    let mut at = at;
+    'words: while let Some(word) = word_at(words, at) {
+        if word.counted {
+            return Reached { at, jumped: false };
+        }
+        let does = effect(context, word, file, memory, at, words.len());
+        if does.stopped.is_some() {
+            return Reached { at, jumped: false };
+        }
+        make(file, does.change);
+        if does.next != at + 1 {
+            return Reached {
+                at: does.next,
+                jumped: true,
+            };
+        }
+        at = does.next;
+    }
+    Reached { at, jumped: false }
+}
+
+/// Runs the words that are not counted, and says where the next counted word is.
+fn settle(context: u32, words: &[Word], file: &mut [u32], memory: &[u32], at: u32) -> u32
+    requires few { length words.now < 4294967295 }
+    requires targets { AllTargets words.now }
+    requires within { at ≤ length words.now }
+    ensures next { result ≤ length words.now }
+    ensures settled { (pending : Option Register) → settled machine_kind context memory.now words.now (run_at at file.old pending) ≡ run_at result file.new pending }
+{
+    let first = run_uncounted(context, words, file, memory, at);
+    if first.jumped {
+        let landed = run_uncounted(context, words, file, memory, first.at);
+        landed.at
+    } else {
+        first.at
+    }
+}
+
+/// What the word at `at` of a context does; behind the last word it is a halt.
+fn effect_at(context: u32, words: &[Word], file: &[u32], memory: &[u32], at: u32) -> Effect<PReg>
+    requires few { length words.now < 4294967295 }
+    requires targets { AllTargets words.now }
+    requires within { at ≤ length words.now }
+    ensures next { result.next ≤ length words.now }
+    ensures table { (pending : Option Register) → result ≡ effect_here machine_kind context memory.now words.now (run_at at file.now pending) }
 {
     match word_at(words, at) {
-        Some(word) => effect(context, word.line, word.instr, file, at, words.len()),
-        None => halted(at),
+        Some(word) => effect(context, word, file, memory, at, words.len()),
+        None => Effect::stops(SegmentExit::Halt, None, at),
     }
 }
 
@@ -230,6 +217,7 @@ pub(crate) fn advance(
     context: u32,
     words: &[Word],
     file: &mut [u32],
+    memory: &[u32],
     at: u32,
     pending: Option<PReg>,
     left: u32,
@@ -240,31 +228,28 @@ pub(crate) fn advance(
     ensures bounded { result.steps ≤ left }
     ensures spent { is_cut result.why ≡ false → 1 ≤ result.steps }
     ensures next { result.at ≤ length words.now }
-    ensures ended { gone_seen file.new result ≡ advance context words.now left (record { at = at; file = file.old; pending = pending }) }
+    ensures ended { gone_seen file.new result ≡ stretch machine_kind context memory.now words.now left (run_at at file.old pending) }
 {
-    let mut at = settle(words, file, at);
+    let mut at = settle(context, words, file, memory, at);
     let mut steps = 0;
     'steps: while steps < left {
-        match effect_at(context, words, file, at) {
-            Did::Onward { write, next } => {
-                write_to(file, write);
-                at = settle(words, file, next);
-                steps += 1;
-            }
-            Did::Ends { why, pending, next } => {
-                return Ended {
-                    at: next,
-                    pending,
-                    steps: steps + 1,
-                    why,
-                };
-            }
+        let does = effect_at(context, words, file, memory, at);
+        make(file, does.change);
+        steps += 1;
+        if let Some(stopped) = does.stopped {
+            return Ended {
+                at: does.next,
+                pending: stopped.pending,
+                steps,
+                why: stopped.why,
+            };
         }
+        at = settle(context, words, file, memory, does.next);
     }
     Ended {
         at,
         pending,
         steps,
-        why: Stop::Bound,
+        why: SegmentExit::Bound,
     }
 }

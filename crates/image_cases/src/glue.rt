@@ -2,7 +2,7 @@
 
 use engine_core::Engine;
 use micro_isa::{Channel, Code, Image, Instr, List, NoMemory, PReg, Range, Setting, Test, Word};
-use run_core::Interpreter;
+use run_state::Interpreter;
 use std::alloc::Global;
 use std::test::Fail;
 use world::{End, Event, Output, Segment, SegmentEnd};

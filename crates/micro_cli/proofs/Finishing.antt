@@ -5,11 +5,10 @@ use Rattle.std.proofs.lemmas.Option.{same_Some}
 use Rattle.micro_isa.specs.declared.program.Bundle.{Bundle}
 use Rattle.micro_kit.specs.Streams.{Rose, Gives, Grew, IsSpent}
 use Rattle.asm_text.specs.Texts.{Spells}
-use Rattle.tasks.specs.declared.status.Status.{Status}
-use Rattle.tasks.specs.declared.status.Status.TheVariants as status
-use Rattle.tasks.specs.declared.task.Task.{Task}
-use Rattle.tasks.specs.Tells.{Fits, Tells, IsServed}
-use Rattle.tasks.proofs.Telling.{served}
+use Rattle.commands.specs.declared.status.Status.{Status}
+use Rattle.commands.specs.declared.status.Status.TheVariants as status
+use Rattle.commands.specs.declared.task.Task.{Task}
+use Rattle.commands.specs.Tells.{Fits, IsServed}
 use Rattle.micro_cli.specs.declared.command.Silence.TheVariants as silence
 use Rattle.micro_cli.specs.Answers.{Says, TellsInput, TellsTooLong, TellsUsage, TellsTask, Asks}
 use Rattle.micro_cli.specs.Silences.{IsSilent}
@@ -52,7 +51,7 @@ said task answer input text b spelt fits (inl bad) =
     absurd (cc)
 said task answer input text b spelt fits (inr tells) =
     let same : tells.bundle ≡ b = tells.spelt.said ∙ sym spelt.said in
-    served task answer b text fits (subst (λ x. Tells task answer x text) same tells.tells)
+    tells.served (subst (Fits task) (sym same) fits)
 
 -- what is told of the task that the words ask for
 task_is_served : (answer : Status) (words : List (List ℕ)) (o : Outside) (text : List ℕ) (h : HasNoCause words o) → TellsTask answer words o.left o.left' text → IsServed answer

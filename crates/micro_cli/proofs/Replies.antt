@@ -2,12 +2,12 @@
 use Rattle.std.proofs.Common.{◌≡◌, ℕ, ◌+◌, List, length, Option, None, Some, refl, inl, inr}
 use Rattle.micro_isa.specs.declared.program.Bundle.{Bundle}
 use Rattle.micro_kit.specs.Streams.{Gives, IsWhole}
-use Rattle.text_lines.specs.Faults.{At}
+use Rattle.asm_lines.specs.Faults.{At}
 use Rattle.asm_text.specs.Texts.{text_fault, Spells}
-use Rattle.tasks.specs.declared.status.Status.{Status}
-use Rattle.tasks.specs.declared.status.Status.TheVariants as status
-use Rattle.tasks.specs.declared.task.Task.{Task}
-use Rattle.tasks.specs.Tells.{Tells}
+use Rattle.commands.specs.declared.status.Status.{Status}
+use Rattle.commands.specs.declared.status.Status.TheVariants as status
+use Rattle.commands.specs.declared.task.Task.{Task}
+use Rattle.commands.specs.Tells.{Tells, Fits, IsServed}
 use Rattle.micro_cli.specs.declared.command.Silence.{Silence}
 use Rattle.micro_cli.specs.declared.command.Silence.TheVariants as silence
 use Rattle.micro_cli.specs.Lines.{usage_line, input_limit, too_long_line, bad_bundle_line}
@@ -16,8 +16,8 @@ use Rattle.micro_cli.specs.Answers.{Says, AsksOfInput, Asks}
 use Rattle.micro_cli.specs.Silences.{FailsToRead, IsSilent}
 
 -- what a task tells of the bundle that the input spells
-pub says_of_bundle : (task : Task) (answer : Status) (input text : List ℕ) (b : Bundle) → Spells input b → Tells task answer b text → Says task answer input text
-says_of_bundle task answer input text b spelt tells = inr (record { bundle = b; spelt = spelt; tells = tells })
+pub says_of_bundle : (task : Task) (answer : Status) (input text : List ℕ) (b : Bundle) → Spells input b → Tells task answer b text → (Fits task b → IsServed answer) → Says task answer input text
+says_of_bundle task answer input text b spelt tells served = inr (record { bundle = b; spelt = spelt; tells = tells; served = served })
 
 -- the first fault of the input
 pub says_of_fault : (task : Task) (answer : Status) (input text : List ℕ) (at : At) → text_fault input ≡ Some at → answer ≡ status.BadBundle → text ≡ bad_bundle_line at → Says task answer input text

@@ -2,12 +2,12 @@
 use Rattle.std.specs.Prelude.{◌≡◌, ℕ, ◌+◌, ◌⊎◌, List, length, Option, Some, None}
 use Rattle.micro_isa.specs.declared.program.Bundle.{Bundle}
 use Rattle.micro_kit.specs.Streams.{Gives, IsWhole}
-use Rattle.text_lines.specs.Faults.{At}
+use Rattle.asm_lines.specs.Faults.{At}
 use Rattle.asm_text.specs.Texts.{text_fault, Spells}
-use Rattle.tasks.specs.declared.status.Status.{Status}
-use Rattle.tasks.specs.declared.status.Status.TheVariants as status
-use Rattle.tasks.specs.declared.task.Task.{Task}
-use Rattle.tasks.specs.Tells.{Tells}
+use Rattle.commands.specs.declared.status.Status.{Status}
+use Rattle.commands.specs.declared.status.Status.TheVariants as status
+use Rattle.commands.specs.declared.task.Task.{Task}
+use Rattle.commands.specs.Tells.{Tells, Fits, IsServed}
 use Rattle.micro_cli.specs.Lines.{usage_line, input_limit, too_long_line, bad_bundle_line}
 use Rattle.micro_cli.specs.Words.{task_asked}
 
@@ -18,11 +18,12 @@ pub record TellsFault (answer : Status) (input text : List ℕ) : Type 0 where
   pub found : text_fault input ≡ Some at
   pub told : text ≡ bad_bundle_line at
 
--- the input spells a bundle, and the text is what the task tells of it
+-- the input spells a bundle, and the text is what the task tells of it; one that fits is served
 pub record TellsBundle (task : Task) (answer : Status) (input text : List ℕ) : Type 0 where
   pub bundle : Bundle
   pub spelt : Spells input bundle
   pub tells : Tells task answer bundle text
+  pub served : Fits task bundle → IsServed answer
 
 -- what a task asks to be written for an input
 abbrev pub Says : Task → Status → List ℕ → List ℕ → Type 0

@@ -3,10 +3,10 @@ use Rattle.std.specs.Prelude.{◌≡◌, ℕ, ◌<◌, ◌≤◌, ◌⊎◌, Lis
 use Rattle.micro_isa.specs.declared.program.Bundle.{Bundle}
 use Rattle.micro_kit.specs.Streams.{Rose, Grew, GivesAtMost}
 use Rattle.asm_text.specs.Texts.{Spells}
-use Rattle.tasks.specs.declared.status.Status.{Status}
-use Rattle.tasks.specs.declared.status.Status.TheVariants as status
-use Rattle.tasks.specs.declared.task.Task.{Task}
-use Rattle.tasks.specs.Tells.{Fits, IsServed}
+use Rattle.commands.specs.declared.status.Status.{Status}
+use Rattle.commands.specs.declared.status.Status.TheVariants as status
+use Rattle.commands.specs.declared.task.Task.{Task}
+use Rattle.commands.specs.Tells.{Fits, IsServed}
 use Rattle.micro_cli.specs.Lines.{input_limit}
 use Rattle.micro_cli.specs.Words.{task_asked}
 use Rattle.micro_cli.specs.Answers.{Asks}

@@ -1,6 +1,6 @@
 -- The lines of refusals.
 use Rattle.std.specs.Prelude.{ℕ, List, [], ◌∷◌, ◌++◌, decimal, codes}
-use Rattle.text_lines.specs.Faults.{At, kind_text}
+use Rattle.asm_lines.specs.Faults.{At, kind_text}
 
 abbrev pub newline : List ℕ
 newline = 10 ∷ []

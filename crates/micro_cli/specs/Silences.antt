@@ -1,7 +1,7 @@
 -- Why a call has nothing to write.
 use Rattle.std.specs.Prelude.{◌≡◌, ℕ, List, Option, Some}
 use Rattle.micro_kit.specs.Streams.{Rose, GivesAtMost}
-use Rattle.tasks.specs.declared.task.Task.{Task}
+use Rattle.commands.specs.declared.task.Task.{Task}
 use Rattle.micro_cli.specs.declared.command.Silence.{Silence}
 use Rattle.micro_cli.specs.declared.command.Silence.TheVariants as silence
 use Rattle.micro_cli.specs.Lines.{input_limit}

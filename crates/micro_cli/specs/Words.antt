@@ -6,8 +6,8 @@ use Rattle.command_words.specs.declared.meaning.Verb.TheVariants as verb
 use Rattle.command_words.specs.declared.meaning.Turns.{Turns}
 use Rattle.command_words.specs.declared.meaning.Turns.TheVariants as turns
 use Rattle.command_words.specs.Meaning.{words_meaning}
-use Rattle.tasks.specs.declared.task.Task.{Task}
-use Rattle.tasks.specs.declared.task.Task.TheVariants as task
+use Rattle.commands.specs.declared.task.Task.{Task}
+use Rattle.commands.specs.declared.task.Task.TheVariants as task
 
 -- the task of a command; threads, images, journals and generated bundles are still to come
 abbrev pub task_for : Verb → Turns → ℕ → Option Task

@@ -2,9 +2,9 @@ ghost use Rattle.std.specs.Prelude.{map, string_bytes};
 ghost use Rattle.micro_cli.specs.Calls.{Finishes, HasNoCause, IsServedOrFree, outside};
 
 use crate::command::{Silence, reply_to_words};
+use commands::Status;
 use micro_kit::{Sink, Source, write_all};
 use std::alloc::Global;
-use tasks::Status;
 
 /// What the program does with the words of its command line: it reads the input, does what the
 /// words ask for with the bundle that it spells, and writes the answer or the line of a refusal.

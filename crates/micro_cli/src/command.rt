@@ -1,21 +1,21 @@
 //! What a call asks to be written: from the words and the input to a status and a text.
 
 ghost use Rattle.std.specs.Prelude.{◌≡◌, ◌≤◌, IfOk, IfErr, Some, length, map, string_bytes};
-ghost use Rattle.text_lines.specs.Faults.{At};
-ghost use Rattle.tasks.specs.Tells.{IsBounded};
-ghost use Rattle.tasks.specs.declared.status.Status.TheVariants as status;
+ghost use Rattle.asm_lines.specs.Faults.{At};
+ghost use Rattle.commands.specs.Tells.{IsBounded};
+ghost use Rattle.commands.specs.declared.status.Status.TheVariants as status;
 ghost use Rattle.micro_cli.specs.Answers.{Asks, AsksOfInput, Says};
 ghost use Rattle.micro_cli.specs.Silences.{FailsToRead, IsSilent};
 ghost use Rattle.micro_cli.specs.Lines.{usage_line, too_long_line, bad_bundle_line};
 
 use crate::lines::{bad_bundle_line, too_long_line, usage_line};
 use crate::words::task_asked;
+use asm_lines::{BundleFault, BundleKind};
 use asm_text::read_bundle;
+use commands::{Reply, Status, Task, perform};
 use micro_isa::NoMemory;
 use micro_kit::{ReadFault, Source, read_all};
 use std::alloc::Global;
-use tasks::{Reply, Status, Task, perform};
-use text_lines::{BundleFault, BundleKind};
 
 /// An input has this many bytes at most.
 const INPUT_LIMIT: usize = 1_048_576;

@@ -9,4 +9,4 @@ mod tests;
 mod words;
 
 pub use call::plain_call;
-pub use tasks::Status;
+pub use commands::Status;

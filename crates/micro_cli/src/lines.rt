@@ -3,10 +3,10 @@
 ghost use Rattle.std.specs.Prelude.{◌≡◌, ◌++◌, IfOk, OnOk};
 ghost use Rattle.micro_cli.specs.Lines.{usage_line, too_long_line, bad_bundle_line};
 
+use asm_lines::{BundleKind, kind_text};
 use micro_isa::NoMemory;
 use micro_kit::put_number;
 use std::alloc::Global;
-use text_lines::{BundleKind, kind_text};
 
 pub(crate) fn usage_line(alloc: Global) -> Result<Vec<u8>, NoMemory>
     ensures { IfOk result (λ line. line.items ≡ usage_line) }

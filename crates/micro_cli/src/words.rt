@@ -1,13 +1,13 @@
 //! The task that the words of the command line ask for.
 
 ghost use Rattle.std.specs.Prelude.{◌≡◌, ◌≤◌, IfOk, IfSome, map, string_bytes};
-ghost use Rattle.tasks.specs.Tells.{IsBounded};
+ghost use Rattle.commands.specs.Tells.{IsBounded};
 ghost use Rattle.micro_cli.specs.Words.{task_of, task_asked};
 
 use command_words::{Meaning, Turns, Verb, read_words};
+use commands::Task;
 use micro_isa::NoMemory;
 use std::alloc::Global;
-use tasks::Task;
 
 /// The task that these words ask for, if they ask for one that there is.
 pub(crate) fn task_asked(alloc: Global, words: &[String]) -> Result<Option<Task>, NoMemory>

@@ -16,18 +16,18 @@ use Rattle.world.specs.declared.event.Entry.TheVariants.{Ran}
 use Rattle.world.specs.declared.event.Illegal.TheVariants as illegal
 use Rattle.world.specs.declared.event.End.TheVariants as ending
 use Rattle.world.specs.WorldState.{WorldState, has_open_input}
-use Rattle.meanings.specs.Core.{Core, can_go_on, is_runnable, illegal_of, has_ended, some_runnable, ending_of}
-use Rattle.meanings.specs.Rounds.{behind, next_in_round, last_after, last_of, KeepsOrder}
-use Rattle.meanings.specs.Events.{Side, Moment, happens, unless_illegal}
-use Rattle.meanings.proofs.Histories.{leads_more, order_more, last_of-append}
-use Rattle.run_core.specs.Segments.{GoesOn}
+use Rattle.semantics.specs.Core.{Core, can_go_on, is_runnable, illegal_of, has_ended, some_runnable, ending_of}
+use Rattle.semantics.specs.Rounds.{behind, next_in_round, first_round, round_after, round_of, KeepsOrder}
+use Rattle.semantics.specs.Events.{Semantics, Config, fire, unless_illegal}
+use Rattle.semantics.proofs.Histories.{leads_more, order_more, round_of-append}
+use Rattle.run_state.specs.Segments.{GoesOn}
 use Rattle.round_order.specs.Journals.{IsTurn, IsRunSoFar, RanAs}
 
 -- a segment that may happen, and its entry
-pub turn_is : {X : Type 0} (side : Side X) (before after : Moment X) (c : ℕ) (s : Segment) → illegal_of before.core (Run c) ≡ None → happens side before (Run c) ≡ (after, seen.Ran s) → IsTurn side before after (Ran c s.steps s.end)
-turn_is side before after c s legal happened = record {
+pub turn_is : {X : Type 0} (rules : Semantics X) (before after : Config X) (c : ℕ) (s : Segment) → illegal_of before.core (Run c) ≡ None → fire rules before (Run c) ≡ (after, seen.Ran s) → IsTurn rules before after (Ran c s.steps s.end)
+turn_is rules before after c s legal happened = record {
   seen = seen.Ran s;
-  happened = ap (λ o. unless_illegal o (happens side before (Run c))) legal ∙ ap Some happened;
+  happened = ap (λ o. unless_illegal o (fire rules before (Run c))) legal ∙ ap Some happened;
   told = refl;
 }
 
@@ -156,8 +156,8 @@ next_is_legal core last c goes h =
     legal_by core c (nat_lt c (length core.phases)) refl (there_where core.world core.phases c can) (still core goes).open_still can
 
 -- the turns begin behind the entries of the opening
-pub no_turn_yet : {X : Type 0} (side : Side X) (before : Moment X) (opening : List Entry) → has_open_input before.core.world ≡ false → IsRunSoFar side before before opening opening None
-no_turn_yet side before opening closed = record {
+pub no_turn_yet : {X : Type 0} (rules : Semantics X) (before : Config X) (opening : List Entry) → has_open_input before.core.world ≡ false → IsRunSoFar rules before before opening opening None
+no_turn_yet rules before opening closed = record {
   closed = closed;
   on = λ first legal order none. (legal, order);
   latest = λ none. none;
@@ -167,21 +167,21 @@ no_turn_yet side before opening closed = record {
 }
 
 -- a turn adds its entry to the journal
-pub turn_more : {X : Type 0} (side : Side X) (before now after : Moment X) (opening entries : List Entry) (last : Option ℕ) (c : ℕ) (e : Entry) → IsRunSoFar side before now opening entries last → next_in_round now.core last ≡ Some c → GoesOn now.core after.core → IsTurn side now after e → RanAs c e → c < 8 → IsRunSoFar side before after opening (entries ++ e ∷ []) (Some c)
-turn_more side before now after opening entries last c e so next goes turn ran low = record {
+pub turn_more : {X : Type 0} (rules : Semantics X) (before now after : Config X) (opening entries : List Entry) (last : Option ℕ) (c : ℕ) (e : Entry) → IsRunSoFar rules before now opening entries last → next_in_round now.core last ≡ Some c → GoesOn now.core after.core → IsTurn rules now after e → RanAs c e → c < 8 → IsRunSoFar rules before after opening (entries ++ e ∷ []) (Some c)
+turn_more rules before now after opening entries last c e so next goes turn ran low = record {
   closed = goes.inputs ∙ so.closed;
   on = λ first legal order none. let given = so.on first legal order none in (
-    leads_more side first now after entries e turn.seen given.0 turn.happened turn.told,
-    order_more side first now None entries e given.0 given.1 (keeps none),
+    leads_more rules first now after entries e turn.seen given.0 turn.happened turn.told,
+    order_more rules first now first_round entries e given.0 given.1 (keeps none),
   );
-  latest = λ none. last_of-append None entries e ∙ ap (last_after (last_of None entries)) ran.2;
+  latest = λ none. round_of-append first_round entries e ∙ ap (round_after (round_of first_round entries)) ran.2;
   small = λ x is. subst (λ y. y < 8) (same_Some c x is) low;
   rest = so.rest ++ e ∷ [];
   begins = ap (λ l. l ++ e ∷ []) so.begins ∙ append_assoc opening so.rest (e ∷ []);
 }
   where
-    keeps : last_of None opening ≡ None → KeepsOrder now.core (last_of None entries) e
-    keeps none = subst (λ x. KeepsOrder now.core (last_of None entries) x) (sym ran.2) (ap (next_in_round now.core) (so.latest none) ∙ next)
+    keeps : round_of first_round opening ≡ first_round → KeepsOrder now.core (round_of first_round entries) e
+    keeps none = subst (λ x. KeepsOrder now.core (round_of first_round entries) x) (sym ran.2) (ap (λ r. next_in_round now.core r.last) (so.latest none) ∙ next)
 
 -- the search behind a context, in two parts
 pub next_found : (p : ℕ → Bool) (n l c : ℕ) → Some c ≡ find p (range_with_len (l + 1) (n - (l + 1))) → Some c ≡ find p (behind n (Some l))

@@ -10,10 +10,10 @@ use Rattle.micro_isa.specs.declared.image.Image.{Image}
 use Rattle.micro_isa.specs.Formed.{IsFormedSetting, IsFormedBundle, IsFormedImage}
 use Rattle.world.specs.WorldState.{holds_at}
 use Rattle.world.specs.Opening.{opened_channel}
-use Rattle.meanings.specs.Core.{opening_core}
-use Rattle.meanings.specs.Events.{Moment}
-use Rattle.meanings.specs.Machine.{Machine, machine_open}
-use Rattle.meanings.specs.Source.{Contexts, source_open}
+use Rattle.semantics.specs.Core.{opening_core}
+use Rattle.semantics.specs.Events.{Config}
+use Rattle.semantics.specs.Machine.{Machine, machine_open}
+use Rattle.semantics.specs.Source.{Contexts, source_open}
 use Rattle.round_order.specs.Openings.{most_channels, IsOpening}
 
 ported_by : (ch : Channel) → (opened_channel ch).plugged ≡ true → (opened_channel ch).ported ≡ true
@@ -37,9 +37,9 @@ opening_is s contexts bound formed = record {
 }
 
 -- the opening of a formed image
-pub image_opening : (m : Image) (bound : ℕ) (before : Moment Machine) → IsFormedImage m → before ≡ machine_open m bound → IsOpening before.core
+pub image_opening : (m : Image) (bound : ℕ) (before : Config Machine) → IsFormedImage m → before ≡ machine_open m bound → IsOpening before.core
 image_opening m bound before formed opens = subst IsOpening (sym (ap (λ x. x.core) opens)) (opening_is m.setting (length m.contexts) bound formed.setting)
 
 -- the opening of a formed bundle
-pub bundle_opening : (b : Bundle) (bound : ℕ) (before : Moment Contexts) → IsFormedBundle b → before ≡ source_open b bound → IsOpening before.core
+pub bundle_opening : (b : Bundle) (bound : ℕ) (before : Config Contexts) → IsFormedBundle b → before ≡ source_open b bound → IsOpening before.core
 bundle_opening b bound before formed opens = subst IsOpening (sym (ap (λ x. x.core) opens)) (opening_is b.setting (length b.programs) bound formed.setting)

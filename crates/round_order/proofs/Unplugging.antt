@@ -12,11 +12,11 @@ use Rattle.world.specs.declared.event.End.{End}
 use Rattle.world.specs.declared.event.Illegal.TheVariants as illegal
 use Rattle.world.specs.Channels.{ChannelState, without_port, is_incoming}
 use Rattle.world.specs.WorldState.{WorldState, holds_at, is_plugged, changed_at, after_unplug, is_open_input, has_open_input}
-use Rattle.meanings.specs.Core.{Core, illegal_of, illegal_at_port}
-use Rattle.meanings.specs.Events.{Side, Moment, happens, unless_illegal, step}
-use Rattle.meanings.specs.Entries.{LeadsTo}
-use Rattle.meanings.specs.Rounds.{InRoundOrder, last_of}
-use Rattle.meanings.proofs.Histories.{leads_more, order_more, last_of-append}
+use Rattle.semantics.specs.Core.{Core, illegal_of, illegal_at_port}
+use Rattle.semantics.specs.Events.{Semantics, Config, fire, unless_illegal, step}
+use Rattle.semantics.specs.Entries.{LeadsTo}
+use Rattle.semantics.specs.Rounds.{first_round, round_after, round_of, AsksInOrder, InRoundOrder}
+use Rattle.semantics.proofs.Histories.{leads_more, leads_run, order_more, round_of-append}
 use Rattle.round_order.specs.Openings.{is_ported, unplugs, unplugs_below, most_channels, IsOpening, IsUnplugged}
 use Rattle.round_order.specs.Journals.{UnpluggedBy, UnpluggedAt, IsOpened, IsJournalOn}
 use Rattle.round_order.specs.RoundRuns.{IsRoundRun}
@@ -139,11 +139,14 @@ all_unplugs w n le =
     ap (unplugs_below w) e ∙ none_behind w (n - length w.channels)
 
 -- the opening's unplugging and the turns behind it are one run
-pub whole_run : {X : Type 0} (side : Side X) (before middle after : Moment X) (opening entries : List Entry) (end : End) → IsOpening before.core → IsOpened side before most_channels middle opening → IsJournalOn side middle after opening entries end → IsRoundRun side before after entries end
-whole_run side before middle after opening entries end begins opened on =
+pub whole_run : {X : Type 0} (rules : Semantics X) (before middle after : Config X) (opening entries : List Entry) (end : End) → IsOpening before.core → IsOpened rules before most_channels middle opening → IsJournalOn rules middle after opening entries end → IsRoundRun rules before after entries end
+whole_run rules before middle after opening entries end begins opened on =
     let whole = on.on before opened.legal opened.order opened.none in
+    let ran = leads_run rules before after entries whole.0 in
     record {
       legal = whole.0;
+      seen = ran.0;
+      ran = ran.1;
       rest = on.rest;
       begins = on.begins ∙ ap (λ l. l ++ on.rest) (opened.told ∙ all_unplugs before.core.world most_channels begins.few);
       order = whole.1;
@@ -157,16 +160,16 @@ all_closed w now so = no_plug now.world.channels (λ j. elim (cases_lt j most_ch
   | inr le ↦ past_all now.world.channels most_channels j so.few le
 ])
 
-pub was_unplugged : {X : Type 0} (side : Side X) (before after : Moment X) (k : ℕ) (es es' : List Entry) → is_plugged before.core.world k ≡ true → happens side before (Unplug k) ≡ (after, seen.Unplugged) → es' ≡ es ++ Unplugged k ∷ [] → UnpluggedAt side before after k es es'
-was_unplugged side before after k es es' plugged happened told =
-    subst (λ b. UnpluggedBy b side before after k es es') (sym plugged) (happened, told)
+pub was_unplugged : {X : Type 0} (rules : Semantics X) (before after : Config X) (k : ℕ) (es es' : List Entry) → is_plugged before.core.world k ≡ true → fire rules before (Unplug k) ≡ (after, seen.Unplugged) → es' ≡ es ++ Unplugged k ∷ [] → UnpluggedAt rules before after k es es'
+was_unplugged rules before after k es es' plugged happened told =
+    subst (λ b. UnpluggedBy b rules before after k es es') (sym plugged) (happened, told)
 
-pub was_not_plugged : {X : Type 0} (side : Side X) (before : Moment X) (k : ℕ) (es : List Entry) → is_plugged before.core.world k ≡ false → UnpluggedAt side before before k es es
-was_not_plugged side before k es free = subst (λ b. UnpluggedBy b side before before k es es) (sym free) (refl, refl)
+pub was_not_plugged : {X : Type 0} (rules : Semantics X) (before : Config X) (k : ℕ) (es : List Entry) → is_plugged before.core.world k ≡ false → UnpluggedAt rules before before k es es
+was_not_plugged rules before k es free = subst (λ b. UnpluggedBy b rules before before k es es) (sym free) (refl, refl)
 
 -- the opening, before the first channel was looked at
-pub opened_at_start : {X : Type 0} (side : Side X) (before : Moment X) → IsOpening before.core → IsOpened side before 0 before []
-opened_at_start side before opening = record { unplugged = at_start before.core opening; legal = refl; order = tt; told = refl; none = refl }
+pub opened_at_start : {X : Type 0} (rules : Semantics X) (before : Config X) → IsOpening before.core → IsOpened rules before 0 before []
+opened_at_start rules before opening = record { unplugged = at_start before.core opening; legal = refl; order = tt; told = refl; none = refl }
 
 one_up : (k : ℕ) → suc k ≡ k + 1
 one_up k = omega arith
@@ -176,27 +179,27 @@ told_more : (w : WorldState) (k : ℕ) (b : Bool) (es : List Entry) → es ≡ u
 told_more w k b es told is =
     ap (λ l. l ++ (if b then Unplugged k ∷ [] else [])) told ∙ ap (λ x. unplugs_below w k ++ (if x then Unplugged k ∷ [] else [])) (sym is)
 
-opened_by : {X : Type 0} (side : Side X) (first before after : Moment X) (k : ℕ) (es es' : List Entry) (b : Bool) → IsOpened side first k before es → is_plugged before.core.world k ≡ b → UnpluggedBy b side before after k es es' → IsOpened side first (suc k) after es'
-opened_by {X} side first before after k es es' true so plugged did =
+opened_by : {X : Type 0} (rules : Semantics X) (first before after : Config X) (k : ℕ) (es es' : List Entry) (b : Bool) → IsOpened rules first k before es → is_plugged before.core.world k ≡ b → UnpluggedBy b rules before after k es es' → IsOpened rules first (suc k) after es'
+opened_by {X} rules first before after k es es' true so plugged did =
     let legal = unplug_is_legal before.core k so.unplugged.goes plugged (so.unplugged.ports k plugged) in
-    let goes : step side before (Unplug k) ≡ Some (after, seen.Unplugged) =
-    ap (λ o. unless_illegal o (happens side before (Unplug k))) legal ∙ ap Some did.0
+    let goes : step rules before (Unplug k) ≡ Some (after, seen.Unplugged) =
+    ap (λ o. unless_illegal o (fire rules before (Unplug k))) legal ∙ ap Some did.0
     in record {
       unplugged = one_more first.core.world k before.core after.core so.unplugged (sym (ap (λ p. p.0.core) did.0));
-      legal = subst (λ l. LeadsTo side first l after) (sym did.1) (leads_more side first before after es (Unplugged k) seen.Unplugged so.legal goes refl);
-      order = subst (λ l. InRoundOrder side first None l) (sym did.1) (order_more side first before None es (Unplugged k) so.legal so.order tt);
+      legal = subst (λ l. LeadsTo rules first l after) (sym did.1) (leads_more rules first before after es (Unplugged k) seen.Unplugged so.legal goes refl);
+      order = subst (λ l. InRoundOrder rules first first_round l) (sym did.1) (order_more rules first before first_round es (Unplugged k) so.legal so.order (subst (λ r. AsksInOrder r.pump k) (sym so.none) tt));
       told = did.1 ∙ told_more first.core.world k true es so.told (sym (so.unplugged.rest k (omega arith)) ∙ plugged);
-      none = ap (last_of None) did.1 ∙ last_of-append None es (Unplugged k) ∙ so.none;
+      none = ap (round_of first_round) did.1 ∙ round_of-append first_round es (Unplugged k) ∙ ap (λ r. round_after r (Unplugged k)) so.none;
     }
-opened_by {X} side first before after k es es' false so free did = record {
+opened_by {X} rules first before after k es es' false so free did = record {
   unplugged = subst (λ m. IsUnplugged first.core.world (suc k) m.core) (sym did.0) (none_there first.core.world k before.core so.unplugged free);
-  legal = subst (λ l. LeadsTo side first l after) (sym did.1) (subst (λ m. LeadsTo side first es m) (sym did.0) so.legal);
-  order = subst (λ l. InRoundOrder side first None l) (sym did.1) so.order;
+  legal = subst (λ l. LeadsTo rules first l after) (sym did.1) (subst (λ m. LeadsTo rules first es m) (sym did.0) so.legal);
+  order = subst (λ l. InRoundOrder rules first first_round l) (sym did.1) so.order;
   told = did.1 ∙ sym (append-nil es) ∙ told_more first.core.world k false es so.told (sym (so.unplugged.rest k (omega arith)) ∙ free);
-  none = ap (last_of None) did.1 ∙ so.none;
+  none = ap (round_of first_round) did.1 ∙ so.none;
 }
 
 -- one channel more
-pub opened_more : {X : Type 0} (side : Side X) (first before after : Moment X) (k : ℕ) (es es' : List Entry) → IsOpened side first k before es → UnpluggedAt side before after k es es' → IsOpened side first (k + 1) after es'
-opened_more side first before after k es es' so did =
-    subst (λ n. IsOpened side first n after es') (one_up k) (opened_by side first before after k es es' (is_plugged before.core.world k) so refl did)
+pub opened_more : {X : Type 0} (rules : Semantics X) (first before after : Config X) (k : ℕ) (es es' : List Entry) → IsOpened rules first k before es → UnpluggedAt rules before after k es es' → IsOpened rules first (k + 1) after es'
+opened_more rules first before after k es es' so did =
+    subst (λ n. IsOpened rules first n after es') (one_up k) (opened_by rules first before after k es es' (is_plugged before.core.world k) so refl did)

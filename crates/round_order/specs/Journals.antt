@@ -9,52 +9,52 @@ use Rattle.world.specs.declared.event.Seen.TheVariants as seen
 use Rattle.world.specs.declared.event.SegmentEnd.{SegmentEnd}
 use Rattle.world.specs.declared.event.End.{End}
 use Rattle.world.specs.WorldState.{has_open_input, is_plugged}
-use Rattle.meanings.specs.Core.{ending_of}
-use Rattle.meanings.specs.Events.{Side, Moment, happens, step}
-use Rattle.meanings.specs.Entries.{event_of, entry_seen, LeadsTo}
-use Rattle.meanings.specs.Rounds.{InRoundOrder, last_of}
+use Rattle.semantics.specs.Core.{ending_of}
+use Rattle.semantics.specs.Events.{Semantics, Config, fire, step}
+use Rattle.semantics.specs.Entries.{event_of, entry_seen, LeadsTo}
+use Rattle.semantics.specs.Rounds.{first_round, round_of, InRoundOrder}
 use Rattle.round_order.specs.Openings.{IsUnplugged, unplugs_below}
 
 -- an event that may happen, and the entry that tells it
-pub record IsTurn {X : Type 0} (side : Side X) (before after : Moment X) (e : Entry) : Type 0 where
+pub record IsTurn {X : Type 0} (rules : Semantics X) (before after : Config X) (e : Entry) : Type 0 where
   pub seen : Seen
-  pub happened : step side before (event_of e) ≡ Some (after, seen)
+  pub happened : step rules before (event_of e) ≡ Some (after, seen)
   pub told : entry_seen e seen ≡ e
 
 -- a channel's port was unplugged and an entry tells it; or it was not plugged, and nothing changed
-abbrev pub UnpluggedBy : {X : Type 0} → Bool → Side X → Moment X → Moment X → ℕ → List Entry → List Entry → Type 0
-UnpluggedBy true side before after k entries entries' =
-    (happens side before (Unplug k) ≡ (after, seen.Unplugged)) × (entries' ≡ entries ++ Unplugged k ∷ [])
-UnpluggedBy false side before after k entries entries' = (after ≡ before) × (entries' ≡ entries)
+abbrev pub UnpluggedBy : {X : Type 0} → Bool → Semantics X → Config X → Config X → ℕ → List Entry → List Entry → Type 0
+UnpluggedBy true rules before after k entries entries' =
+    (fire rules before (Unplug k) ≡ (after, seen.Unplugged)) × (entries' ≡ entries ++ Unplugged k ∷ [])
+UnpluggedBy false rules before after k entries entries' = (after ≡ before) × (entries' ≡ entries)
 
-abbrev pub UnpluggedAt : {X : Type 0} → Side X → Moment X → Moment X → ℕ → List Entry → List Entry → Type 0
-UnpluggedAt side before after k entries entries' = UnpluggedBy (is_plugged before.core.world k) side before after k entries entries'
+abbrev pub UnpluggedAt : {X : Type 0} → Semantics X → Config X → Config X → ℕ → List Entry → List Entry → Type 0
+UnpluggedAt rules before after k entries entries' = UnpluggedBy (is_plugged before.core.world k) rules before after k entries entries'
 
 -- from the opening with the ports below `k` unplugged
-pub record IsOpened {X : Type 0} (side : Side X) (before : Moment X) (k : ℕ) (now : Moment X) (entries : List Entry) : Type 0 where
+pub record IsOpened {X : Type 0} (rules : Semantics X) (before : Config X) (k : ℕ) (now : Config X) (entries : List Entry) : Type 0 where
   pub unplugged : IsUnplugged before.core.world k now.core
-  pub legal : LeadsTo side before entries now
-  pub order : InRoundOrder side before None entries
+  pub legal : LeadsTo rules before entries now
+  pub order : InRoundOrder rules before first_round entries
   pub told : entries ≡ unplugs_below before.core.world k
-  pub none : last_of None entries ≡ None
+  pub none : round_of first_round entries ≡ first_round
 
--- what leads to a moment goes on with turns in round order to another
-abbrev pub GoesOnTo : {X : Type 0} → Side X → Moment X → Moment X → List Entry → List Entry → Type 0
-GoesOnTo {X} side before now opening entries =
-    (first : Moment X) → LeadsTo side first opening before → InRoundOrder side first None opening → last_of None opening ≡ None → LeadsTo side first entries now × InRoundOrder side first None entries
+-- what leads to a configuration goes on with turns in round order to another
+abbrev pub GoesOnTo : {X : Type 0} → Semantics X → Config X → Config X → List Entry → List Entry → Type 0
+GoesOnTo {X} rules before now opening entries =
+    (first : Config X) → LeadsTo rules first opening before → InRoundOrder rules first first_round opening → round_of first_round opening ≡ first_round → LeadsTo rules first entries now × InRoundOrder rules first first_round entries
 
 -- turns that go on behind the entries of an opening: the journal so far, and the last context that ran
-pub record IsRunSoFar {X : Type 0} (side : Side X) (before now : Moment X) (opening entries : List Entry) (last : Option ℕ) : Type 0 where
+pub record IsRunSoFar {X : Type 0} (rules : Semantics X) (before now : Config X) (opening entries : List Entry) (last : Option ℕ) : Type 0 where
   pub closed : has_open_input now.core.world ≡ false
-  pub on : GoesOnTo side before now opening entries
-  pub latest : last_of None opening ≡ None → last_of None entries ≡ last
+  pub on : GoesOnTo rules before now opening entries
+  pub latest : round_of first_round opening ≡ first_round → round_of first_round entries ≡ record { last = last; pump = None }
   pub small : ForSome last (λ c. c < 8)
   pub rest : List Entry
   pub begins : entries ≡ opening ++ rest
 
 -- behind the entries of an opening: a journal goes on with turns in round order to an ending
-pub record IsJournalOn {X : Type 0} (side : Side X) (before after : Moment X) (opening entries : List Entry) (end : End) : Type 0 where
-  pub on : GoesOnTo side before after opening entries
+pub record IsJournalOn {X : Type 0} (rules : Semantics X) (before after : Config X) (opening entries : List Entry) (end : End) : Type 0 where
+  pub on : GoesOnTo rules before after opening entries
   pub rest : List Entry
   pub begins : entries ≡ opening ++ rest
   pub ended : ending_of after.core ≡ Some end

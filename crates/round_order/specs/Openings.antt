@@ -3,7 +3,7 @@ use Rattle.std.specs.Prelude.{◌≡◌, ℕ, zero, suc, ◌<◌, ◌≤◌, Lis
 use Rattle.world.specs.declared.event.Entry.{Entry}
 use Rattle.world.specs.declared.event.Entry.TheVariants.{Unplugged}
 use Rattle.world.specs.WorldState.{WorldState, holds_at, is_plugged}
-use Rattle.meanings.specs.Core.{Core}
+use Rattle.semantics.specs.Core.{Core}
 
 -- a run has this many channels at most
 abbrev pub most_channels : ℕ

@@ -6,7 +6,7 @@ ghost use Rattle.round_order.specs.Openings.{IsOpening, most_channels, is_ported
 ghost use Rattle.round_order.specs.Journals.{IsOpened, UnpluggedAt};
 
 use micro_isa::NoMemory;
-use run_core::Interpreter;
+use run_state::Interpreter;
 use std::alloc::Global;
 use world::Entry;
 
@@ -15,9 +15,9 @@ const MOST_CHANNELS: u8 = 16;
 
 /// Unplugs each port that is plugged, in channel order, and tells it.
 pub(crate) fn unplug_all<I: Interpreter>(alloc: Global, run: &mut I) -> Result<Vec<Entry>, NoMemory>
-    requires { IsOpening (I.moment run.old).core }
-    ensures side { I.side run.new ≡ I.side run.old }
-    ensures opened { IfOk result (λ entries. IsOpened (I.side run.old) (I.moment run.old) most_channels (I.moment run.new) entries.items) }
+    requires { IsOpening (I.config run.old).core }
+    ensures rules { I.rules run.new ≡ I.rules run.old }
+    ensures opened { IfOk result (λ entries. IsOpened (I.rules run.old) (I.config run.old) most_channels (I.config run.new) entries.items) }
 {
     let mut entries = Vec::new(alloc);
     'channels: for channel in 0..MOST_CHANNELS {
@@ -33,10 +33,10 @@ fn unplug_at<I: Interpreter>(
     run: &mut I,
     channel: u8,
 ) -> Result<(), NoMemory>
-    requires goes { (I.moment run.old).core.over ≡ false }
-    requires ported { is_plugged (I.moment run.old).core.world channel ≡ true → is_ported (I.moment run.old).core.world channel ≡ true }
-    ensures side { I.side run.new ≡ I.side run.old }
-    ensures unplugged { OnOk result (UnpluggedAt (I.side run.old) (I.moment run.old) (I.moment run.new) channel entries.old.items entries.new.items) }
+    requires goes { (I.config run.old).core.over ≡ false }
+    requires ported { is_plugged (I.config run.old).core.world channel ≡ true → is_ported (I.config run.old).core.world channel ≡ true }
+    ensures rules { I.rules run.new ≡ I.rules run.old }
+    ensures unplugged { OnOk result (UnpluggedAt (I.rules run.old) (I.config run.old) (I.config run.new) channel entries.old.items entries.new.items) }
 {
     if run.plugged(channel) {
         run.unplug(channel);

@@ -5,16 +5,16 @@ ghost use Rattle.std.specs.List.{range_with_len};
 ghost use Rattle.std.specs.Option.{ForSome};
 ghost use Rattle.world.specs.WorldState.{has_open_input};
 ghost use Rattle.world.specs.declared.event.Event.TheVariants.{Run as RunOf};
-ghost use Rattle.meanings.specs.Core.{illegal_of, is_runnable, ending_of};
-ghost use Rattle.meanings.specs.Rounds.{next_in_round};
-ghost use Rattle.run_core.specs.Segments.{GoesOn};
+ghost use Rattle.semantics.specs.Core.{illegal_of, is_runnable, ending_of};
+ghost use Rattle.semantics.specs.Rounds.{next_in_round};
+ghost use Rattle.run_state.specs.Segments.{GoesOn};
 ghost use Rattle.round_order.specs.Journals.{IsTurn, IsJournalOn, RanAs};
 ghost use Rattle.round_order.specs.Openings.{IsOpening};
 ghost use Rattle.round_order.specs.RoundRuns.{IsRoundRun};
 
 use crate::opening::{note, unplug_all};
 use micro_isa::NoMemory;
-use run_core::Interpreter;
+use run_state::Interpreter;
 use std::alloc::Global;
 use world::{End, Entry};
 
@@ -27,9 +27,9 @@ pub(crate) struct Journal {
 
 /// Unplugs the ports, and runs the contexts in round order until the run has an ending.
 pub(crate) fn run_rounds<I: Interpreter>(alloc: Global, run: &mut I) -> Result<Journal, NoMemory>
-    requires { IsOpening (I.moment run.old).core }
-    ensures side { I.side run.new ≡ I.side run.old }
-    ensures run { IfOk result (λ journal. IsRoundRun (I.side run.old) (I.moment run.old) (I.moment run.new) journal.entries.items journal.end) }
+    requires { IsOpening (I.config run.old).core }
+    ensures rules { I.rules run.new ≡ I.rules run.old }
+    ensures run { IfOk result (λ journal. IsRoundRun (I.rules run.old) (I.config run.old) (I.config run.new) journal.entries.items journal.end) }
 {
     let entries = unplug_all(alloc, run)?;
     match take_turns(entries, run) {
@@ -40,9 +40,9 @@ pub(crate) fn run_rounds<I: Interpreter>(alloc: Global, run: &mut I) -> Result<J
 
 /// Gives turns in round order, behind the entries of the opening.
 fn take_turns<I: Interpreter>(entries: Vec<Entry>, run: &mut I) -> Result<Journal, NoMemory>
-    requires { has_open_input (I.moment run.old).core.world ≡ false }
-    ensures side { I.side run.new ≡ I.side run.old }
-    ensures run { IfOk result (λ journal. IsJournalOn (I.side run.old) (I.moment run.old) (I.moment run.new) entries.items journal.entries.items journal.end) }
+    requires { has_open_input (I.config run.old).core.world ≡ false }
+    ensures rules { I.rules run.new ≡ I.rules run.old }
+    ensures run { IfOk result (λ journal. IsJournalOn (I.rules run.old) (I.config run.old) (I.config run.new) entries.items journal.entries.items journal.end) }
 {
     let mut entries = entries;
     let mut last = None;
@@ -60,10 +60,10 @@ fn take_turns<I: Interpreter>(entries: Vec<Entry>, run: &mut I) -> Result<Journa
 /// One segment of a context, as an entry.
 #[tactic(auto, using(crate::proofs::Rounds::turn_is))]
 fn turn<I: Interpreter>(run: &mut I, context: u32) -> Entry
-    requires { illegal_of (I.moment run.old).core (RunOf context) ≡ None }
-    ensures side { I.side run.new ≡ I.side run.old }
-    ensures goes_on { GoesOn (I.moment run.old).core (I.moment run.new).core }
-    ensures turn { IsTurn (I.side run.old) (I.moment run.old) (I.moment run.new) result }
+    requires { illegal_of (I.config run.old).core (RunOf context) ≡ None }
+    ensures rules { I.rules run.new ≡ I.rules run.old }
+    ensures goes_on { GoesOn (I.config run.old).core (I.config run.new).core }
+    ensures turn { IsTurn (I.rules run.old) (I.config run.old) (I.config run.new) result }
     ensures ran { RanAs context result }
 {
     let segment = run.segment(context);
@@ -78,10 +78,10 @@ fn turn<I: Interpreter>(run: &mut I, context: u32) -> Entry
 #[tactic(auto, using(crate::proofs::Rounds::somebody_next, crate::proofs::Rounds::next_is_legal))]
 fn next_context<I: Interpreter>(run: &I, last: Option<u32>) -> u32
     requires small { ForSome last (λ c. c < 8) }
-    requires goes_on { ending_of (I.moment run.now).core ≡ None }
-    requires closed { has_open_input (I.moment run.now).core.world ≡ false }
-    ensures next { next_in_round (I.moment run.now).core last ≡ Some result }
-    ensures legal { illegal_of (I.moment run.now).core (RunOf result) ≡ None }
+    requires goes_on { ending_of (I.config run.now).core ≡ None }
+    requires closed { has_open_input (I.config run.now).core.world ≡ false }
+    ensures next { next_in_round (I.config run.now).core last ≡ Some result }
+    ensures legal { illegal_of (I.config run.now).core (RunOf result) ≡ None }
     ensures small { result < 8 }
 {
     match next_in_round(run, last) {
@@ -93,7 +93,7 @@ fn next_context<I: Interpreter>(run: &I, last: Option<u32>) -> u32
 /// The first runnable context behind the last one that ran, in cyclic order.
 fn next_in_round<I: Interpreter>(run: &I, last: Option<u32>) -> Option<u32>
     requires { ForSome last (λ c. c < 8) }
-    ensures next { result ≡ next_in_round (I.moment run.now).core last }
+    ensures next { result ≡ next_in_round (I.config run.now).core last }
     ensures small { IfSome result (λ c. c < 8) }
 {
     match last {
@@ -104,7 +104,7 @@ fn next_in_round<I: Interpreter>(run: &I, last: Option<u32>) -> Option<u32>
 
 fn next_behind<I: Interpreter>(run: &I, last: u32) -> Option<u32>
     requires { last < 8 }
-    ensures next { result ≡ next_in_round (I.moment run.now).core (Some last) }
+    ensures next { result ≡ next_in_round (I.config run.now).core (Some last) }
     ensures small { IfSome result (λ c. c < 8) }
 {
     match first_runnable(run, last + 1, run.contexts()) {
@@ -116,7 +116,7 @@ fn next_behind<I: Interpreter>(run: &I, last: u32) -> Option<u32>
 /// The first runnable context from `from` on and below `to`.
 #[tactic(auto, using(crate::proofs::Rounds::range_step, crate::proofs::Rounds::range_none))]
 fn first_runnable<I: Interpreter>(run: &I, from: u32, to: u32) -> Option<u32>
-    ensures found { result ≡ find (is_runnable (I.moment run.now).core) (range_with_len from (to - from)) }
+    ensures found { result ≡ find (is_runnable (I.config run.now).core) (range_with_len from (to - from)) }
     ensures below { IfSome result (λ c. c < to) }
 {
     'contexts: for context in from..to {

@@ -1,9 +1,9 @@
 ghost use Rattle.std.specs.Prelude.{◌≡◌, ◌≤◌, IfOk};
 ghost use Rattle.micro_isa.specs.Formed.{IsFormedBundle, IsFormedImage};
-ghost use Rattle.meanings.specs.Machine.{machine_side, machine_open};
-ghost use Rattle.meanings.specs.Source.{source_side, source_open};
-ghost use Rattle.engine_core.specs.EngineState.{moment_of as engine_moment};
-ghost use Rattle.source_core.specs.SourceState.{moment_of as source_moment};
+ghost use Rattle.semantics.specs.Machine.{machine_semantics, machine_open};
+ghost use Rattle.semantics.specs.Source.{source_semantics, source_open};
+ghost use Rattle.engine_core.specs.EngineState.{config_of as engine_moment};
+ghost use Rattle.source_core.specs.SourceState.{config_of as source_moment};
 ghost use Rattle.round_order.specs.RoundRuns.{IsRoundRun};
 
 use crate::order::run_rounds;
@@ -34,7 +34,7 @@ pub struct SourceRounds {
 pub fn run_engine(alloc: Global, image: &Image, bound: u32) -> Result<EngineRun, NoMemory>
     requires formed { IsFormedImage image.now }
     requires bound { bound ≤ 1048576 }
-    ensures { IfOk result (λ run. IsRoundRun (machine_side image.now) (machine_open image.now bound) (engine_moment run.engine) run.entries.items run.end) }
+    ensures { IfOk result (λ run. IsRoundRun (machine_semantics image.now) (machine_open image.now bound) (engine_moment run.engine) run.entries.items run.end) }
 {
     let mut engine = Engine::open(alloc, image, bound)?;
     let journal = run_rounds(alloc, &mut engine)?;
@@ -49,7 +49,7 @@ pub fn run_engine(alloc: Global, image: &Image, bound: u32) -> Result<EngineRun,
 pub fn run_source(alloc: Global, bundle: &Bundle, bound: u32) -> Result<SourceRounds, NoMemory>
     requires formed { IsFormedBundle bundle.now }
     requires bound { bound ≤ 1048576 }
-    ensures { IfOk result (λ run. IsRoundRun (source_side bundle.now) (source_open bundle.now bound) (source_moment run.source) run.entries.items run.end) }
+    ensures { IfOk result (λ run. IsRoundRun (source_semantics bundle.now) (source_open bundle.now bound) (source_moment run.source) run.entries.items run.end) }
 {
     let mut source = SourceRun::open(alloc, bundle, bound)?;
     let journal = run_rounds(alloc, &mut source)?;

@@ -9,40 +9,36 @@ use Rattle.micro_isa.specs.declared.program.VReg.{VReg}
 use Rattle.micro_isa.specs.declared.program.Bundle.{Bundle}
 use Rattle.micro_isa.specs.declared.image.PReg.{PReg}
 use Rattle.micro_isa.specs.declared.image.Image.{Image}
-use Rattle.meanings.specs.Core.{Core, illegal_of, completion, completed, steps_left, phase_after, is_cut}
-use Rattle.meanings.specs.Events.{Gone}
-use Rattle.meanings.specs.Source.{SourceContext, Contexts, received, with_context, code_of, stretch, source_side}
-use Rattle.meanings.specs.Machine.{Kept, Machine, Running, running, with_running, received_word, words_of, counted_from, advance, machine_side}
-use Rattle.meanings.proofs.Simulation.{Keeps, Simulates}
-use Rattle.meanings.proofs.Waiting.{Fits, FitsStop, fits_after, legal, word_for, get-set_same, get-set_other}
+use Rattle.semantics.specs.Core.{Core, illegal_of, completed, phase_after, is_cut}
+use Rattle.semantics.specs.Events.{Stretch, given}
+use Rattle.semantics.specs.Effects.{SavedContext}
+use Rattle.semantics.specs.Stretches.{received, counted_from, stretch, stretch_of}
+use Rattle.semantics.specs.Source.{SourceContext, Contexts, source_kind, with_context, code_of, source_semantics}
+use Rattle.semantics.specs.Machine.{Machine, machine_kind, active, with_active, words_of, machine_semantics}
+use Rattle.semantics.proofs.Stretching.{settled_none}
+use Rattle.semantics.proofs.Simulation.{Keeps, Simulates}
+use Rattle.semantics.proofs.Waiting.{Fits, FitsStop, fits_after, legal, word_for, get-set_same, get-set_other}
 use Rattle.sliced_image.specs.Sliced.{word_of}
-use Rattle.sliced_image.proofs.Follow.{Placed, Holds, Waits, Suspended, Followed, follow, settled-map, kept_by_write, wrote}
+use Rattle.sliced_image.proofs.Follow.{OnFile, kept_in, Placed, Holds, Waits, Suspended, Followed, follow, settled-map, kept_by_write, wrote}
 
 -- a context that has its word
-record Delivered (place : VReg → PReg) (live : ℕ → VReg → Type 0) (free : ℕ → Type 0) (size : ℕ) (before : List ℕ) (x : SourceContext) (m : Running) : Type 0 where
-  at : m.at ≡ x.place
-  pending : m.pending ≡ option_map place x.pending
-  long : length m.file ≡ size
-  holds : Holds place (live x.place) x.values m.file
-  others : (q : ℕ) → (free q → ⊥) → slice_index m.file q ≡ slice_index before q
+record Delivered (place : VReg → PReg) (live : ℕ → VReg → Type 0) (free : ℕ → Type 0) (size : ℕ) (before : List ℕ) (x : SourceContext) (m : OnFile) : Type 0 where
+  kept : m.kept ≡ kept_in place x.kept
+  long : length m.values ≡ size
+  holds : Holds place (live x.kept.at) x.values m.values
+  others : (q : ℕ) → (free q → ⊥) → slice_index m.values q ≡ slice_index before q
 
-delivered : (place : VReg → PReg) (live : ℕ → VReg → Type 0) (mine free : ℕ → Type 0) (size : ℕ) (x : SourceContext) (m : Running) (p : Option VReg) (v : Option ℕ) → x.pending ≡ p → m.pending ≡ option_map place p → m.at ≡ x.place → length m.file ≡ size → Waits place (live x.place) mine free size x.values m.file p → ((r : VReg) → p ≡ Some r → (w : ℕ) × (v ≡ Some w)) → Delivered place live free size m.file (received x p v) (received_word m (option_map place p) v)
-delivered place live mine free size x m None v xp mp at long waits has = record {
-  at = at;
-  pending = mp ∙ sym (ap (option_map place) xp);
-  long = long;
-  holds = record { at = λ r l. (waits r l).1 };
-  others = λ q nf. refl;
-}
-delivered place live mine free size x m (Some r) None xp mp at long waits has = let h = has r refl in absurd (cc)
-delivered place live mine free size x m (Some r) (Some w) xp mp at long waits has =
-    let lt : (place r).0 < length m.file = subst (λ s. (place r).0 < s) (sym long) waits.1 in
+delivered : (place : VReg → PReg) (live : ℕ → VReg → Type 0) (mine free : ℕ → Type 0) (size : ℕ) (x : SourceContext) (m : OnFile) (p : Option VReg) (v : Option ℕ) → m.kept ≡ kept_in place x.kept → length m.values ≡ size → Waits place (live x.kept.at) mine free size x.values m.values p → ((r : VReg) → p ≡ Some r → (w : ℕ) × (v ≡ Some w)) → Delivered place live free size m.values (received source_kind p v x) (received machine_kind (option_map place p) v m)
+delivered place live mine free size x m None v kept long waits has =
+    record { kept = kept; long = long; holds = record { at = λ r l. (waits r l).1 }; others = λ q nf. refl }
+delivered place live mine free size x m (Some r) None kept long waits has = let h = has r refl in absurd (cc)
+delivered place live mine free size x m (Some r) (Some w) kept long waits has =
+    let lt : (place r).0 < length m.values = subst (λ s. (place r).0 < s) (sym long) waits.1 in
     record {
-      at = at;
-      pending = refl;
-      long = length-set m.file (place r).0 w ∙ long;
-      holds = record { at = λ q l. wrote place m.file x.values (r, w) q lt (λ ne. let s = waits.2 q l ne in (s.1, s.2)) (q.0 == r.0) refl };
-      others = λ q nf. kept_by_write free m.file (place r).0 w q waits.0 nf;
+      kept = λ i. record (kept i) { pending = None };
+      long = length-set m.values (place r).0 w ∙ long;
+      holds = record { at = λ q l. wrote place m.values x.values r w q lt (λ ne. let s = waits.2 q l ne in (s.1, s.2)) (q.0 == r.0) refl };
+      others = λ q nf. kept_by_write free m.values (place r).0 w q waits.0 nf;
     }
 
 -- what one context keeps while others write elsewhere
@@ -58,9 +54,9 @@ pub record Allocated (b : Bundle) (m : Image) (place : ℕ → VReg → PReg) (l
   pub apart : (c d : ℕ) → d ≢ c → (q : ℕ) → mine d q → free c q → ⊥
 
 -- one context, in the source and in the machine
-pub record One (place : VReg → PReg) (live : ℕ → VReg → Type 0) (mine free : ℕ → Type 0) (size : ℕ) (phase : Option Phase) (x : SourceContext) (k : Kept) (file : List ℕ) : Type 0 where
-  pub fits : Fits phase x.pending
-  pub waiting : Suspended place live mine free size x k.at k.pending file
+pub record One (place : VReg → PReg) (live : ℕ → VReg → Type 0) (mine free : ℕ → Type 0) (size : ℕ) (phase : Option Phase) (x : SourceContext) (k : SavedContext PReg) (file : List ℕ) : Type 0 where
+  pub fits : Fits phase x.kept.pending
+  pub waiting : Suspended place live mine free size x k file
 
 pub record Held (place : ℕ → VReg → PReg) (live : ℕ → ℕ → VReg → Type 0) (mine free : ℕ → ℕ → Type 0) (size : ℕ) (phases : List Phase) (xs : Contexts) (y : Machine) : Type 0 where
   pub long : length y.file ≡ size
@@ -75,25 +71,25 @@ module _ (b : Bundle) (m : Image) (place : ℕ → VReg → PReg) (live : ℕ �
   R = Related place live mine free size
 
   -- the phases after a segment of c: it waited for nothing while it ran
-  abbrev phases_after : List ℕ → List Phase → ℕ → Gone Running → List Phase
+  abbrev phases_after : List ℕ → List Phase → ℕ → Stretch OnFile → List Phase
   phases_after memory ps c gy = slice_set (slice_set ps c Ready) c (phase_after memory gy.why)
 
   -- every context after a segment of c
-  after : (memory : List ℕ) (ps : List Phase) (xs : Contexts) (y : Machine) (c : ℕ) (gx : Gone SourceContext) (gy : Gone Running) → c < length ps → Held place live mine free size ps xs y → Followed (place c) (live c) (mine c) (free c) size y.file gx gy → is_cut gy.why ≡ false → Held place live mine free size (phases_after memory ps c gy) (with_context xs c gx.state) (with_running y c gy.state)
+  after : (memory : List ℕ) (ps : List Phase) (xs : Contexts) (y : Machine) (c : ℕ) (gx : Stretch SourceContext) (gy : Stretch OnFile) → c < length ps → Held place live mine free size ps xs y → Followed (place c) (live c) (mine c) (free c) size y.file gx gy → is_cut gy.why ≡ false → Held place live mine free size (phases_after memory ps c gy) (with_context xs c gx.state) (with_active y c gy.state)
   after memory ps xs y c gx gy there h f cut = record { long = f.long; each = λ d lt. at d lt (d == c) refl }
     where
-      at : (d : ℕ) → d < length (phases_after memory ps c gy) → (e : Bool) → (d == c) ≡ e → One (place d) (live d) (mine d) (free d) size (slice_get (phases_after memory ps c gy) d) (if e then gx.state else xs d) (if e then record { at = gy.state.at; pending = gy.state.pending } else y.contexts d) gy.state.file
+      at : (d : ℕ) → d < length (phases_after memory ps c gy) → (e : Bool) → (d == c) ≡ e → One (place d) (live d) (mine d) (free d) size (slice_get (phases_after memory ps c gy) d) (if e then gx.state else xs d) (if e then gy.state.kept else y.contexts d) gy.state.values
       at d lt true is =
           let same : c ≡ d = sym (eqb-true d c is) in
           let s = f.suspended (ap is_cut f.why ∙ cut) in
           let there' : c < length (slice_set ps c Ready) = subst (λ n. c < n) (sym (length-set ps c Ready)) there in
-          let fits : Fits (slice_get (phases_after memory ps c gy) c) gx.state.pending =
-          subst (λ o. Fits o gx.state.pending) (sym (get-set_same (slice_set ps c Ready) c (phase_after memory gy.why) there')) (fits_after memory gy.why gx.state.pending (subst (λ w. FitsStop w gx.state.pending) f.why s.0))
+          let fits : Fits (slice_get (phases_after memory ps c gy) c) gx.state.kept.pending =
+          subst (λ o. Fits o gx.state.kept.pending) (sym (get-set_same (slice_set ps c Ready) c (phase_after memory gy.why) there')) (fits_after memory gy.why gx.state.kept.pending (subst (λ w. FitsStop w gx.state.kept.pending) f.why s.0))
           in
-          let one : One (place c) (live c) (mine c) (free c) size (slice_get (phases_after memory ps c gy) c) gx.state (record { at = gy.state.at; pending = gy.state.pending }) gy.state.file =
+          let one : One (place c) (live c) (mine c) (free c) size (slice_get (phases_after memory ps c gy) c) gx.state gy.state.kept gy.state.values =
           record { fits = fits; waiting = s.1 }
           in
-          subst (λ k. One (place k) (live k) (mine k) (free k) size (slice_get (phases_after memory ps c gy) k) gx.state (record { at = gy.state.at; pending = gy.state.pending }) gy.state.file) same one
+          subst (λ k. One (place k) (live k) (mine k) (free k) size (slice_get (phases_after memory ps c gy) k) gx.state gy.state.kept gy.state.values) same one
       at d lt false is =
           let ne : d ≢ c = eqb-false d c is in
           let long : length (phases_after memory ps c gy) ≡ length ps =
@@ -105,46 +101,49 @@ module _ (b : Bundle) (m : Image) (place : ℕ → VReg → PReg) (live : ℕ �
           get-set_other (slice_set ps c Ready) c d (phase_after memory gy.why) ne ∙ get-set_other ps c d Ready ne
           in
           record {
-            fits = subst (λ o. Fits o (xs d).pending) (sym phase) one.fits;
+            fits = subst (λ o. Fits o (xs d).kept.pending) (sym phase) one.fits;
             waiting = record {
-              at_place = w.at_place;
-              same_pending = w.same_pending;
-              waits = others_keep (place d) (live d (xs d).place) (mine d) (free d) size (xs d).values y.file gy.state.file (xs d).pending (λ q mq. f.others q (fit.apart c d ne q mq)) w.waits;
+              kept = w.kept;
+              waits = others_keep (place d) (live d (xs d).kept.at) (mine d) (free d) size (xs d).values y.file gy.state.values (xs d).kept.pending (λ q mq. f.others q (fit.apart c d ne q mq)) w.waits;
             };
           }
 
-  segment : (core : Core) (xs : Contexts) (y : Machine) (c : ℕ) → illegal_of core (Run c) ≡ None → R core xs y → Keeps R (completed core c) c (source_side b xs c (completion core c).received (steps_left core)) (machine_side m y c (completion core c).received (steps_left core))
+  segment : (core : Core) (xs : Contexts) (y : Machine) (c : ℕ) → illegal_of core (Run c) ≡ None → R core xs y → Keeps R (completed core c) c (source_semantics b xs c (given core c)) (machine_semantics m y c (given core c))
   segment core xs y c ok r =
       let l = legal core c ok in
       let h = r.held l.open_still in
       let there = ltb-true c (length core.phases) l.there in
       let one = h.each c there in
-      let n = steps_left core in
-      let word = (completion core c).received in
+      let g = given core c in
       let s = one.waiting in
-      let x1 = received (xs c) (xs c).pending word in
-      let m1 = received_word (running y c) (y.contexts c).pending word in
+      let x1 = received source_kind (xs c).kept.pending g.word (xs c) in
+      let m1 = received machine_kind (y.contexts c).pending g.word (active y c) in
       let d : Delivered (place c) (live c) (free c) size y.file x1 m1 =
-      subst (λ p. Delivered (place c) (live c) (free c) size y.file x1 (received_word (running y c) p word)) (sym s.same_pending)
-      (delivered (place c) (live c) (mine c) (free c) size (xs c) (running y c) (xs c).pending word refl s.same_pending s.at_place h.long s.waits
+      subst (λ p. Delivered (place c) (live c) (free c) size y.file x1 (received machine_kind p g.word (active y c))) (sym (ap (λ k. k.pending) s.kept))
+      (delivered (place c) (live c) (mine c) (free c) size (xs c) (active y c) (xs c).kept.pending g.word s.kept h.long s.waits
       (λ p e. word_for core.world (slice_get core.phases c) p (subst (Fits (slice_get core.phases c)) e one.fits) l.can))
       in
-      let go = follow c (code_of b c) (place c) (live c) (mine c) (free c) size (fit.each c) n x1 m1 d.at d.pending d.long d.holds in
-      let same : counted_from c (map (word_of (place c)) (code_of b c)) n m1 ≡ advance c (words_of m c) n m1 =
-      (λ i. counted_from c (map (word_of (place c)) (code_of b c)) n (sym (settled-map (place c) (code_of b c) m1) i))
-      ∙ ap (λ ws. advance c ws n m1) (sym (fit.words c))
+      let words = map (word_of (place c)) (code_of b c) in
+      let go = follow c g.memory (code_of b c) (place c) (live c) (mine c) (free c) size (fit.each c) g.left x1 m1 d.kept d.long d.holds in
+      let from : counted_from source_kind c g.memory (code_of b c) g.left x1 ≡ stretch source_kind c g.memory (code_of b c) g.left x1 =
+      λ i. counted_from source_kind c g.memory (code_of b c) g.left (sym (settled_none source_kind c g.memory (code_of b c) x1 (λ l. refl)) i)
       in
-      let f : Followed (place c) (live c) (mine c) (free c) size y.file (stretch c (code_of b c) n x1) (advance c (words_of m c) n m1) =
-      subst (λ g. Followed (place c) (live c) (mine c) (free c) size y.file (stretch c (code_of b c) n x1) g) same
-      (record { steps = go.steps; why = go.why; long = go.long; others = λ q nf. go.others q nf ∙ d.others q nf; suspended = go.suspended })
+      let on : counted_from machine_kind c g.memory words g.left m1 ≡ stretch machine_kind c g.memory (words_of m c) g.left m1 =
+      (λ i. counted_from machine_kind c g.memory words g.left (sym (settled-map (place c) c g.memory (code_of b c) m1) i))
+      ∙ ap (λ ws. stretch machine_kind c g.memory ws g.left m1) (sym (fit.words c))
+      in
+      let f : Followed (place c) (live c) (mine c) (free c) size y.file (stretch_of source_kind c (code_of b c) g (xs c)) (stretch_of machine_kind c (words_of m c) g (active y c)) =
+      subst (λ k. Followed (place c) (live c) (mine c) (free c) size y.file k (stretch machine_kind c g.memory (words_of m c) g.left m1)) from
+      (subst (λ k. Followed (place c) (live c) (mine c) (free c) size y.file (counted_from source_kind c g.memory (code_of b c) g.left x1) k) on
+      (record { steps = go.steps; why = go.why; long = go.long; others = λ q nf. go.others q nf ∙ d.others q nf; suspended = go.suspended }))
       in
       record {
         steps = f.steps;
         why = f.why;
-        related = record { held = λ cut. after (completed core c).world.memory core.phases xs y c (stretch c (code_of b c) n x1) (advance c (words_of m c) n m1) there h f cut };
+        related = record { held = λ cut. after (completed core c).world.memory core.phases xs y c (stretch_of source_kind c (code_of b c) g (xs c)) (stretch_of machine_kind c (words_of m c) g (active y c)) there h f cut };
       }
 
-  pub simulates : Simulates (source_side b) (machine_side m) R
+  pub simulates : Simulates (source_semantics b) (machine_semantics m) R
   simulates = record {
     segment = segment;
     fed = λ core xs y k word ok r. record { held = λ o. r.held o };

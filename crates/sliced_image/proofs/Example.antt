@@ -7,10 +7,10 @@ use Rattle.micro_isa.specs.declared.program.Program.{Program}
 use Rattle.micro_isa.specs.declared.program.Bundle.{Bundle}
 use Rattle.micro_isa.specs.declared.image.Image.{Image}
 use Rattle.micro_isa.specs.Formed.{Each, names_below, is_labelled, target_of, always_rises, never_falls, fits_channels, IsFormedProgram, IsFormedSetting, IsFormedBundle}
-use Rattle.meanings.specs.Events.{run}
-use Rattle.meanings.specs.Source.{source_side, source_open}
-use Rattle.meanings.specs.Machine.{machine_side, machine_open}
-use Rattle.meanings.specs.Agreement.{shown, Implements}
+use Rattle.semantics.specs.Events.{run}
+use Rattle.semantics.specs.Source.{source_semantics, source_open}
+use Rattle.semantics.specs.Machine.{machine_semantics, machine_open}
+use Rattle.semantics.specs.Agreement.{shown, Implements}
 use Rattle.sliced_image.specs.Example.{adder, lines_of, two_adders, turns, both_sums}
 use Rattle.sliced_image.specs.Sliced.{sliced_need}
 use Rattle.sliced_image.proofs.Fitting.{and_left, and_right}
@@ -74,9 +74,9 @@ pub two_adders_formed : (b : Bundle) → b ≡ two_adders → IsFormedBundle b �
 two_adders_formed b e = subst (λ k. IsFormedBundle k × (sliced_need k ≤ k.file)) (sym e) (formed, omega arith)
 
 -- the source runs to its end, so agreement with it says something
-bundle_run : shown (run (source_side two_adders) (source_open two_adders 100) turns) ≡ Some both_sums
+bundle_run : shown (run (source_semantics two_adders) (source_open two_adders 100) turns) ≡ Some both_sums
 bundle_run = refl
 
-pub image_run : (b : Bundle) (m : Image) → b ≡ two_adders → Implements m b → shown (run (machine_side m) (machine_open m 100) turns) ≡ Some both_sums
+pub image_run : (b : Bundle) (m : Image) → b ≡ two_adders → Implements m b → shown (run (machine_semantics m) (machine_open m 100) turns) ≡ Some both_sums
 image_run b m e same =
-    same.same 100 turns ∙ (λ i. shown (run (source_side (e i)) (source_open (e i) 100) turns)) ∙ bundle_run
+    same.same 100 turns ∙ (λ i. shown (run (source_semantics (e i)) (source_open (e i) 100) turns)) ∙ bundle_run

@@ -15,13 +15,14 @@ use Rattle.micro_isa.specs.declared.image.PReg.{PReg}
 use Rattle.micro_isa.specs.declared.image.Image.{Image}
 use Rattle.micro_isa.specs.Arithmetic.{quotient_of}
 use Rattle.micro_isa.specs.Formed.{registers_in, IsFormedBundle}
-use Rattle.meanings.specs.Core.{opening_core}
-use Rattle.meanings.specs.Effects.{Numbered, divided, effect_of, effect_at}
-use Rattle.meanings.specs.Source.{code_in, code_of, source_at, source_side, source_open}
-use Rattle.meanings.specs.Machine.{words_in, machine_side, machine_open}
-use Rattle.meanings.specs.Agreement.{Implements}
-use Rattle.meanings.proofs.Simulation.{agree}
-use Rattle.meanings.proofs.Waiting.{Fits}
+use Rattle.semantics.specs.Core.{opening_core}
+use Rattle.semantics.specs.Effects.{divided, effect_of}
+use Rattle.semantics.specs.Stretches.{Numbered, numbered_at, effect_at}
+use Rattle.semantics.specs.Source.{SourceContext, source_kind, code_in, code_of, source_semantics, source_open}
+use Rattle.semantics.specs.Machine.{words_in, machine_semantics, machine_open}
+use Rattle.semantics.specs.Agreement.{Implements}
+use Rattle.semantics.proofs.Simulation.{agree}
+use Rattle.semantics.proofs.Waiting.{Fits}
 use Rattle.sliced_image.specs.Sliced.{word_of, place_from, codes_from, registers_of, sliced_need, sliced_image, AllBelow, CodeBelow, AllFit}
 use Rattle.sliced_image.proofs.Fitting.{bundle_fits}
 use Rattle.sliced_image.proofs.Follow.{ReadsLive, ReadsLiveAt, Sound, Placed}
@@ -64,7 +65,7 @@ abbrev BelowAt : ℕ → Option (Numbered VReg) → Type 0
 BelowAt n None = Unit {0}
 BelowAt n (Some i) = AllBelow n (registers_in i.instr)
 
-below_at : (n : ℕ) (code : List Line) (i : ℕ) → CodeBelow n code → BelowAt n (source_at code i)
+below_at : (n : ℕ) (code : List Line) (i : ℕ) → CodeBelow n code → BelowAt n (numbered_at source_kind code i)
 below_at n [] i h = tt
 below_at n (l ∷ ls) zero h = h.0
 below_at n (l ∷ ls) (suc i) h = below_at n ls i h.1
@@ -104,29 +105,29 @@ module _ (c start n size : ℕ) (room : start + n ≤ size) where
   sound_divided None to line i h = (tt, λ r l. (l, (omega arith, omega arith)))
   sound_divided (Some q) to line i h = ((omega arith, omega arith), omega arith, λ r l ne. (l, λ e. ne (omega arith)))
 
-  sound : (line : ℕ) (instr : Instr VReg) → AllBelow n (registers_in instr) → (i : ℕ) (read : VReg → ℕ) → Sound (place_from start) live mine mine size i (effect_of c line instr read i)
-  sound line (Li to k) h i read = ((omega arith, omega arith), omega arith, λ r l ne. (l, λ e. ne (omega arith)))
-  sound line (Mov to from) h i read = ((omega arith, omega arith), omega arith, λ r l ne. (l, λ e. ne (omega arith)))
-  sound line (Alu op to a b) h i read = ((omega arith, omega arith), omega arith, λ r l ne. (l, λ e. ne (omega arith)))
-  sound line (Div op to a b) h i read = sound_divided (quotient_of op (read a) (read b)) to line i h.0
-  sound line (Ctx to) h i read = ((omega arith, omega arith), omega arith, λ r l ne. (l, λ e. ne (omega arith)))
-  sound line (Jmp target) h i read = λ r l. l
-  sound line (Branch test a b target) h i read = λ r l. l
-  sound line (Load to address) h i read = (tt, ((omega arith, omega arith), omega arith, λ r l ne. (l, (omega arith, omega arith), λ e. ne (omega arith))))
-  sound line (Store address from) h i read = (tt, λ r l. (l, (omega arith, omega arith)))
-  sound line Yield h i read = (tt, λ r l. (l, (omega arith, omega arith)))
-  sound line (Recv to channel) h i read = (tt, ((omega arith, omega arith), omega arith, λ r l ne. (l, (omega arith, omega arith), λ e. ne (omega arith))))
-  sound line (Send channel from) h i read = (tt, λ r l. (l, (omega arith, omega arith)))
-  sound line Halt h i read = (tt, λ r l. (l, (omega arith, omega arith)))
+  sound : (line : ℕ) (instr : Instr VReg) → AllBelow n (registers_in instr) → (memory : List ℕ) (x : SourceContext) → Sound (place_from start) live mine mine size x.kept.at (effect_of c line instr x.values memory x.kept)
+  sound line (Li to k) h memory x = ((omega arith, omega arith), omega arith, λ r l ne. (l, λ e. ne (omega arith)))
+  sound line (Mov to from) h memory x = ((omega arith, omega arith), omega arith, λ r l ne. (l, λ e. ne (omega arith)))
+  sound line (Alu op to a b) h memory x = ((omega arith, omega arith), omega arith, λ r l ne. (l, λ e. ne (omega arith)))
+  sound line (Div op to a b) h memory x = sound_divided (quotient_of op (x.values a) (x.values b)) to line x.kept.at h.0
+  sound line (Ctx to) h memory x = ((omega arith, omega arith), omega arith, λ r l ne. (l, λ e. ne (omega arith)))
+  sound line (Jmp target) h memory x = λ r l. l
+  sound line (Branch test a b target) h memory x = λ r l. l
+  sound line (Load to address) h memory x = (tt, ((omega arith, omega arith), omega arith, λ r l ne. (l, (omega arith, omega arith), λ e. ne (omega arith))))
+  sound line (Store address from) h memory x = (tt, λ r l. (l, (omega arith, omega arith)))
+  sound line Yield h memory x = (tt, λ r l. (l, (omega arith, omega arith)))
+  sound line (Recv to channel) h memory x = (tt, ((omega arith, omega arith), omega arith, λ r l ne. (l, (omega arith, omega arith), λ e. ne (omega arith))))
+  sound line (Send channel from) h memory x = (tt, λ r l. (l, (omega arith, omega arith)))
+  sound line Halt h memory x = (tt, λ r l. (l, (omega arith, omega arith)))
 
-  sound_at : (o : Option (Numbered VReg)) → BelowAt n o → (i : ℕ) (read : VReg → ℕ) → Sound (place_from start) live mine mine size i (effect_at c o read i)
-  sound_at None h i read = (tt, λ r l. (l, (omega arith, omega arith)))
-  sound_at (Some k) h i read = sound k.line k.instr h i read
+  sound_at : (o : Option (Numbered VReg)) → BelowAt n o → (memory : List ℕ) (x : SourceContext) → Sound (place_from start) live mine mine size x.kept.at (effect_at source_kind c memory o x)
+  sound_at None h memory x = (tt, λ r l. (l, (omega arith, omega arith)))
+  sound_at (Some k) h memory x = sound k.line k.instr h memory x
 
   placed : (code : List Line) → CodeBelow n code → Placed c code (place_from start) live mine mine size
   placed code h = record {
-    reads = λ i. reads_at (source_at code i) (below_at n code i h) i;
-    sound = λ i read. sound_at (source_at code i) (below_at n code i h) i read;
+    reads = λ i. reads_at (numbered_at source_kind code i) (below_at n code i h) i;
+    sound = λ memory x. sound_at (numbered_at source_kind code x.kept.at) (below_at n code x.kept.at h) memory x;
   }
 
 slice_index-replicate : (n i : ℕ) → slice_index (replicate n 0) i ≡ 0
@@ -169,14 +170,14 @@ module _ (b : Bundle) (fits : AllFit b.programs) (room : sliced_need b ≤ b.fil
       long = length-replicate b.file 0;
       each = λ c lt. record {
         fits = subst (λ p. Fits {R = VReg} p None) (sym (get-replicate (length (codes_from 0 b.programs)) c Ready (simp length-replicate at lt))) tt;
-        waiting = record { at_place = refl; same_pending = refl; waits = λ r l. ((omega arith, omega arith), slice_index-replicate b.file _) };
+        waiting = record { kept = refl; waits = λ r l. ((omega arith, omega arith), slice_index-replicate b.file _) };
       };
     };
   }
 
   implements : Implements (sliced_image b) b
   implements = record {
-    same = λ bound es. sym (agree (source_side b) (machine_side (sliced_image b)) (Related places lives owns owns b.file) (simulates b (sliced_image b) places lives owns owns b.file fit) (source_open b bound) (machine_open (sliced_image b) bound)
+    same = λ bound es. sym (agree (source_semantics b) (machine_semantics (sliced_image b)) (Related places lives owns owns b.file) (simulates b (sliced_image b) places lives owns owns b.file fit) (source_open b bound) (machine_open (sliced_image b) bound)
         (ap (λ n. opening_core b.setting n bound) (length-codes b.programs 0)) (opened bound) es);
   }
 

@@ -16,7 +16,7 @@ use Rattle.world.specs.declared.event.SegmentEnd.{SegmentEnd}
 use Rattle.world.specs.declared.event.SegmentEnd.TheVariants as end
 use Rattle.world.specs.declared.event.Output.{Output}
 use Rattle.world.specs.declared.event.End.TheVariants.{Finished}
-use Rattle.meanings.specs.Agreement.{Shown}
+use Rattle.semantics.specs.Agreement.{Shown}
 
 abbrev pub x : VReg
 x = record { 0 = 0 }

@@ -2,7 +2,7 @@
 
 ghost use Rattle.std.specs.Prelude.{◌≡◌, ◌+◌, ◌-◌, ◌<◌, ◌≤◌, IfOk, length};
 ghost use Rattle.micro_isa.specs.Formed.{IsFormedBundle, IsFormedImage};
-ghost use Rattle.meanings.specs.Agreement.{Implements};
+ghost use Rattle.semantics.specs.Agreement.{Implements};
 ghost use Rattle.sliced_image.specs.Sliced.{private_slice, codes_from, last_slice, registers_of, sliced_need, sliced_image, AllFit};
 
 use crate::words::sliced_words;

@@ -1,8 +1,8 @@
 //! The slices of a bundle of two contexts with two registers each.
 ghost use Rattle.std.specs.Prelude.{◌≡◌, ◌∷◌, [], ◌++◌, ◌≤◌, Some, IfOk};
-ghost use Rattle.meanings.specs.Events.{run};
-ghost use Rattle.meanings.specs.Machine.{machine_side, machine_open};
-ghost use Rattle.meanings.specs.Agreement.{shown};
+ghost use Rattle.semantics.specs.Events.{run};
+ghost use Rattle.semantics.specs.Machine.{machine_semantics, machine_open};
+ghost use Rattle.semantics.specs.Agreement.{shown};
 ghost use Rattle.sliced_image.specs.Example.{adder, lines_of, two_adders, turns, both_sums};
 
 use super::*;
@@ -133,7 +133,7 @@ fn two_adders(alloc: Global) -> Result<Bundle, NoMemory>
 /// The image, whose whole run puts out both sums: agreement with the bundle says something.
 #[tactic(auto, using(crate::proofs::Example::two_adders_formed, crate::proofs::Example::image_run))]
 fn sliced(alloc: Global) -> Result<Image, NoMemory>
-    ensures { IfOk result (λ image. shown (run (machine_side image) (machine_open image 100) turns) ≡ Some both_sums) }
+    ensures { IfOk result (λ image. shown (run (machine_semantics image) (machine_open image 100) turns) ≡ Some both_sums) }
 {
     let bundle = two_adders(alloc)?;
     slice_image(alloc, &bundle)

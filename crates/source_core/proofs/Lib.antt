@@ -1,4 +1,3 @@
 pub mod Putting
-pub mod StepLemmas
 pub mod SegmentLemmas
 pub mod Opening

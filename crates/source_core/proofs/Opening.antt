@@ -10,11 +10,11 @@ use Rattle.micro_isa.specs.declared.program.Program.{Program}
 use Rattle.micro_isa.specs.declared.program.Bundle.{Bundle}
 use Rattle.micro_isa.specs.Formed.{all_below, option_below, target_of, names_below, IsFormedProgram, IsFormedBundle}
 use Rattle.world.specs.declared.event.Phase.TheVariants.{Ready}
-use Rattle.meanings.specs.Source.{source_open}
-use Rattle.meanings.specs.Core.{Core, opening_core}
+use Rattle.semantics.specs.Source.{source_open}
+use Rattle.semantics.specs.Core.{Core, opening_core}
 use Rattle.source_core.specs.declared.context.ContextState.{ContextState}
 use Rattle.source_core.specs.Steps.{IsNamed, AllNamed}
-use Rattle.source_core.specs.SourceState.{context_of, start_of, moment_of, IsContext, IsSound}
+use Rattle.source_core.specs.SourceState.{context_of, start_of, config_of, IsContext, IsSound}
 
 first : (a b : Bool) → (a && b) ≡ true → a ≡ true
 first true b h = refl
@@ -77,13 +77,13 @@ zero_at zero k = refl
 zero_at (suc n) zero = refl
 zero_at (suc n) (suc k) = zero_at n k
 
-context_start : (ps : List Program) (c : ℕ) → context_of (slice_get (map start_of ps) c) ≡ record { place = 0; values = λ r. 0; pending = None }
+context_start : (ps : List Program) (c : ℕ) → context_of (slice_get (map start_of ps) c) ≡ record { kept = record { at = 0; pending = None }; values = λ r. 0 }
 context_start [] c = refl
-context_start (p ∷ ps) zero = λ i. record { place = 0; values = λ r. zero_at (length p.registers) r.0 i; pending = None }
+context_start (p ∷ ps) zero = λ i. record { kept = record { at = 0; pending = None }; values = λ r. zero_at (length p.registers) r.0 i }
 context_start (p ∷ ps) (suc c) = context_start ps c
 
 -- an interpreter that opens is the opening of the source run
-pub opens : (b bundle : Bundle) (bound : ℕ) (core : Core) (xs : List ContextState) → bundle ≡ b → core ≡ opening_core b.setting (length b.programs) bound → xs ≡ map start_of b.programs → moment_of (record { bundle = bundle; core = core; contexts = xs }) ≡ source_open b bound
+pub opens : (b bundle : Bundle) (bound : ℕ) (core : Core) (xs : List ContextState) → bundle ≡ b → core ≡ opening_core b.setting (length b.programs) bound → xs ≡ map start_of b.programs → config_of (record { bundle = bundle; core = core; contexts = xs }) ≡ source_open b bound
 opens b bundle bound core xs is_bundle is_core is_xs =
-    (λ i. moment_of (record { bundle = is_bundle i; core = is_core i; contexts = is_xs i }))
+    (λ i. config_of (record { bundle = is_bundle i; core = is_core i; contexts = is_xs i }))
     ∙ (λ i. record { core = opening_core b.setting (length b.programs) bound; state = λ c. context_start b.programs c i })

@@ -11,14 +11,15 @@ use Rattle.world.specs.declared.event.SegmentEnd.{SegmentEnd}
 use Rattle.world.specs.declared.event.Output.{Output}
 use Rattle.world.specs.declared.event.Event.TheVariants.{Run}
 use Rattle.world.specs.declared.event.Seen.TheVariants.{Ran}
-use Rattle.meanings.specs.Core.{Core, Completed, completion, completed, finished, end_after, steps_left, illegal_of}
-use Rattle.meanings.specs.Events.{after_stretch, happens}
-use Rattle.meanings.specs.Source.{Contexts, received, source_back, code_of, code_in, stretch, source_side}
-use Rattle.meanings.proofs.Waiting.{get-set_same, get-set_other}
-use Rattle.run_core.proofs.Segments.{left_after, is_there}
+use Rattle.semantics.specs.Core.{Core, Completed, completion, completed, finished, end_after, steps_left, illegal_of}
+use Rattle.semantics.specs.Events.{after_stretch, fire}
+use Rattle.semantics.specs.Stretches.{stretch_in, stretch_of}
+use Rattle.semantics.specs.Source.{Contexts, code_of, code_in, with_context, source_kind, source_semantics}
+use Rattle.semantics.proofs.Waiting.{get-set_same, get-set_other}
+use Rattle.run_state.proofs.Segments.{is_there}
 use Rattle.source_core.specs.declared.context.ContextState.{ContextState}
 use Rattle.source_core.specs.declared.context.Spent.{Spent}
-use Rattle.source_core.specs.SourceState.{seen_context, context_of, stretched, moment_of, IsContext, IsSound}
+use Rattle.source_core.specs.SourceState.{seen_context, context_of, stretched, config_of, IsContext, IsSound}
 
 -- the contexts after a write are the contexts with one replaced
 context_after : (xs : List ContextState) (c : ℕ) (x : ContextState) → c < length xs → (d : ℕ) (b : Bool) → (d == c) ≡ b → (if b then seen_context x else context_of (slice_get xs d)) ≡ context_of (slice_get (slice_set xs c x) d)
@@ -27,15 +28,14 @@ context_after xs c x lt d true is =
 context_after xs c x lt d false is = ap context_of (sym (get-set_other xs c d x (eqb-false d c is)))
 
 -- what the interpreter does in a segment, step by step, is what happens to the source run
-pub segment_is : (bundle : Bundle) (core core1 core2 : Core) (xs : List ContextState) (c left : ℕ) (x x' : ContextState) (code : List Line) (word : Option ℕ) (sent : Option Output) (spent : Spent) (fin : SegmentEnd) → fin ≡ end_after core1.world.memory spent.why → completion core c ≡ record { received = word; sent = sent; world = core1.world } → core1 ≡ completed core c → slice_get xs c ≡ Some x → code_of bundle c ≡ code → left ≡ steps_left core1 → stretched x' spent ≡ stretch c code left (received (seen_context x) x.pending word) → core2 ≡ finished core1 c spent.steps spent.why → happens (source_side bundle) (moment_of (record { bundle = bundle; core = core; contexts = xs })) (Run c) ≡ (moment_of (record { bundle = bundle; core = core2; contexts = slice_set xs c x' }), Ran (record { steps = spent.steps; end = fin; sent = sent }))
-segment_is bundle core core1 core2 xs c left x x' code word sent spent fin fin_is done core1_is at is_code is_left went fin2 =
+pub segment_is : (bundle : Bundle) (core core1 core2 : Core) (xs : List ContextState) (c left : ℕ) (x x' : ContextState) (code : List Line) (word : Option ℕ) (sent : Option Output) (spent : Spent) (fin : SegmentEnd) (memory : List ℕ) → memory ≡ core1.world.memory → fin ≡ end_after core1.world.memory spent.why → completion core c ≡ record { received = word; sent = sent; world = core1.world } → core1 ≡ completed core c → slice_get xs c ≡ Some x → code_of bundle c ≡ code → left ≡ steps_left core1 → stretched x' spent ≡ stretch_of source_kind c code (record { word = word; memory = memory; left = left }) (seen_context x) → core2 ≡ finished core1 c spent.steps spent.why → fire (source_semantics bundle) (config_of (record { bundle = bundle; core = core; contexts = xs })) (Run c) ≡ (config_of (record { bundle = bundle; core = core2; contexts = slice_set xs c x' }), Ran (record { steps = spent.steps; end = fin; sent = sent }))
+segment_is bundle core core1 core2 xs c left x x' code word sent spent fin memory is_memory fin_is done core1_is at is_code is_left went fin2 =
     let st : Contexts = λ d. context_of (slice_get xs d) in
     let after : Completed = record { received = word; sent = sent; world = core1.world } in
-    let same : steps_left core ≡ left = left_after core core1 c left core1_is is_left in
     let lt = slice_get_within xs c x at in
-    (λ i. after_stretch (sym core1_is i) c (done i) (source_side bundle st c (done i).received (same i)))
-    ∙ (λ i. after_stretch core1 c after (source_back st c (stretch c (is_code i) left (received (context_of (at i)) (context_of (at i)).pending word))))
-    ∙ ap (λ g. after_stretch core1 c after (source_back st c g)) (sym went)
+    (λ i. after_stretch (sym core1_is i) c (done i) (source_semantics bundle st c (record { word = (done i).received; memory = (sym core1_is i).world.memory; left = (ap steps_left (sym core1_is) ∙ sym is_left) i })))
+    ∙ (λ i. after_stretch core1 c after (stretch_in (with_context st c) (stretch_of source_kind c (is_code i) (record { word = word; memory = sym is_memory i; left = left }) (context_of (at i)))))
+    ∙ ap (λ g. after_stretch core1 c after (stretch_in (with_context st c) g)) (sym went)
     ∙ (λ i. (record { core = sym fin2 i; state = λ d. context_after xs c x' lt d (d == c) refl i }, Ran (record { steps = spent.steps; end = sym fin_is i; sent = sent })))
 
 -- the interpreter stays sound where a context does

@@ -1,11 +1,11 @@
--- The interpreter's state, and the moment of a run that it stands for.
+-- The interpreter's state, and the configuration of a run that it stands for.
 use Rattle.std.specs.Prelude.{◌≡◌, ◌≤◌, ◌<◌, ℕ, List, [], length, replicate, Option, Some, None, slice_get, IfSome}
 use Rattle.micro_isa.specs.declared.program.Line.{Line}
 use Rattle.micro_isa.specs.declared.program.Program.{Program}
 use Rattle.micro_isa.specs.declared.program.Bundle.{Bundle}
-use Rattle.meanings.specs.Core.{Core}
-use Rattle.meanings.specs.Events.{Gone, Moment}
-use Rattle.meanings.specs.Source.{SourceContext, Contexts}
+use Rattle.semantics.specs.Core.{Core}
+use Rattle.semantics.specs.Events.{Stretch, Config}
+use Rattle.semantics.specs.Source.{SourceContext, Contexts}
 use Rattle.source_core.specs.declared.context.ContextState.{ContextState}
 use Rattle.source_core.specs.declared.context.Spent.{Spent}
 use Rattle.source_core.specs.Steps.{AllNamed, context_at}
@@ -23,16 +23,16 @@ seen_context x = context_at x.at x.registers x.pending
 abbrev pub start_of : Program → ContextState
 start_of p = record { at = 0; registers = replicate (length p.registers) 0; pending = None }
 
-abbrev pub stretched : ContextState → Spent → Gone SourceContext
+abbrev pub stretched : ContextState → Spent → Stretch SourceContext
 stretched x spent = record { state = seen_context x; steps = spent.steps; why = spent.why }
 
 abbrev pub context_of : Option ContextState → SourceContext
 context_of None = context_at 0 [] None
 context_of (Some x) = seen_context x
 
--- the moment of a source run that an interpreter stands for
-abbrev pub moment_of : SourceState → Moment Contexts
-moment_of s = record { core = s.core; state = λ c. context_of (slice_get s.contexts c) }
+-- the configuration of a source run that an interpreter stands for
+abbrev pub config_of : SourceState → Config Contexts
+config_of s = record { core = s.core; state = λ c. context_of (slice_get s.contexts c) }
 
 -- a context's instructions are few and name what is there, it stands at one of them, and the register that waits is there
 pub record IsContext (code : List Line) (x : ContextState) : Type 0 where

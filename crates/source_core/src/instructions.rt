@@ -1,28 +1,18 @@
 //! The instructions of one context, up to its next stop.
 
-ghost use Rattle.std.specs.Prelude.{◌≡◌, ◌+◌, ◌<◌, ◌≤◌, length, slice_get, false, IfSome};
-ghost use Rattle.meanings.specs.Core.{is_cut};
-ghost use Rattle.meanings.specs.Effects.{effect_of, divided};
-ghost use Rattle.meanings.specs.Source.{stretch};
-ghost use Rattle.source_core.specs.Steps.{effect_seen, gone_seen, values_of, context_at, written, AllNamed, IsNamed, StaysWithin};
+ghost use Rattle.std.specs.Prelude.{◌≡◌, ◌+◌, ◌<◌, ◌≤◌, Option, None, length, slice_get, false, IfSome, if◌then◌else◌};
+ghost use Rattle.micro_isa.specs.declared.program.VReg.{VReg as Register};
+ghost use Rattle.semantics.specs.Core.{is_cut};
+ghost use Rattle.semantics.specs.declared.SegmentExit.TheVariants.{Store as StoreOf};
+ghost use Rattle.semantics.specs.declared.Change.TheVariants.{Nothing as NothingOf, Register as RegisterOf};
+ghost use Rattle.semantics.specs.Effects.{effect_of, divided, onward, stops};
+ghost use Rattle.semantics.specs.Stretches.{effect_here, stretch};
+ghost use Rattle.semantics.specs.Source.{source_kind};
+ghost use Rattle.source_core.specs.Steps.{gone_seen, values_of, context_at, written, AllNamed, IsNamed, ChangesWithin, StaysWithin};
 
 use crate::registers::Registers;
-use meanings::Stop;
 use micro_isa::{Instr, Line, VReg, alu, divide, test_holds};
-
-/// What one instruction does.
-#[derive(Clone, Copy, Debug, PartialEq, Eq)]
-pub(crate) enum Did {
-    Onward {
-        write: Option<(VReg, u32)>,
-        next: u32,
-    },
-    Ends {
-        why: Stop,
-        pending: Option<VReg>,
-        next: u32,
-    },
-}
+use semantics::{Change, Effect, SegmentExit};
 
 /// Where a stretch of instructions ended, and why.
 #[derive(Clone, Copy, Debug, PartialEq, Eq)]
@@ -30,117 +20,106 @@ pub(crate) struct Ended {
     pub at: u32,
     pub pending: Option<VReg>,
     pub steps: u32,
-    pub why: Stop,
+    pub why: SegmentExit,
 }
 
 /// What this instruction does on these registers, as the one at `at` of a context.
 fn effect(
     context: u32,
-    line: u32,
-    instr: Instr<VReg>,
+    line: Line,
     registers: &Registers,
+    memory: &[u32],
     at: u32,
     size: usize,
-) -> Did
+) -> Effect<VReg>
     requires few { size < 4294967295 }
     requires within { at < size }
-    requires named { IsNamed (length registers.now) size instr }
+    requires named { IsNamed (length registers.now) size line.instr }
     ensures within { StaysWithin (length registers.now) size result }
-    ensures table { effect_seen result ≡ effect_of context line instr (values_of registers.now) at }
+    ensures table { (pending : Option Register) → result ≡ effect_of context line.line line.instr (values_of registers.now) memory.now (record { at = at; pending = pending }) }
 {
-    match instr {
-        Instr::Li { to, n } => Did::Onward {
-            write: Some((to, n)),
-            next: at + 1,
-        },
-        Instr::Mov { to, from } => Did::Onward {
-            write: Some((to, registers.read(from))),
-            next: at + 1,
-        },
-        Instr::Alu { op, to, a, b } => Did::Onward {
-            write: Some((to, alu(op, registers.read(a), registers.read(b)))),
-            next: at + 1,
-        },
+    let source = line.line;
+    match line.instr {
+        Instr::Li { to, n } => written(to, n, at),
+        Instr::Mov { to, from } => written(to, registers.read(from), at),
+        Instr::Alu { op, to, a, b } => {
+            written(to, alu(op, registers.read(a), registers.read(b)), at)
+        }
         Instr::Div { op, to, a, b } => {
             let quotient = divide(op, registers.read(a), registers.read(b));
-            divided(quotient, to, registers, line, at)
+            divided(quotient, to, source, at)
         }
-        Instr::Ctx { to } => Did::Onward {
-            write: Some((to, context)),
-            next: at + 1,
-        },
-        Instr::Jmp { target } => Did::Onward {
-            write: None,
-            next: target,
-        },
+        Instr::Ctx { to } => written(to, context, at),
+        Instr::Jmp { target } => Effect::onward(Change::Nothing, target),
         Instr::Branch { test, a, b, target } => {
             let taken = test_holds(test, registers.read(a), registers.read(b));
-            Did::Onward {
-                write: None,
-                next: if taken { target } else { at + 1 },
-            }
+            branched(taken, target, at)
         }
-        Instr::Load { to, address } => Did::Ends {
-            why: Stop::Load {
-                address: registers.read(address),
-                line,
-            },
-            pending: Some(to),
-            next: at + 1,
-        },
-        Instr::Store { address, from } => Did::Ends {
-            why: Stop::Store {
-                address: registers.read(address),
-                word: registers.read(from),
-                line,
-            },
-            pending: None,
-            next: at + 1,
-        },
-        Instr::Yield => Did::Ends {
-            why: Stop::Yield,
-            pending: None,
-            next: at + 1,
-        },
-        Instr::Recv { to, channel } => Did::Ends {
-            why: Stop::Recv { channel },
-            pending: Some(to),
-            next: at + 1,
-        },
-        Instr::Send { channel, from } => Did::Ends {
-            why: Stop::Send {
-                channel,
-                word: registers.read(from),
-            },
-            pending: None,
-            next: at + 1,
-        },
-        Instr::Halt => Did::Ends {
-            why: Stop::Halt,
-            pending: None,
-            next: at,
-        },
+        Instr::Load { to, address } => {
+            let address = registers.read(address);
+            Effect::stops(
+                SegmentExit::Load {
+                    address,
+                    line: source,
+                },
+                Some(to),
+                at + 1,
+            )
+        }
+        Instr::Store { address, from } => {
+            stored(registers.read(address), registers.read(from), source, at)
+        }
+        Instr::Yield => Effect::stops(SegmentExit::Yield, None, at + 1),
+        Instr::Recv { to, channel } => Effect::stops(
+            SegmentExit::Recv { channel },
+            Some(to),
+            at + 1,
+        ),
+        Instr::Send { channel, from } => {
+            let word = registers.read(from);
+            Effect::stops(SegmentExit::Send { channel, word }, None, at + 1)
+        }
+        Instr::Halt => Effect::stops(SegmentExit::Halt, None, at),
     }
 }
 
+/// A write, after which the next instruction comes.
+fn written(to: VReg, value: u32, at: u32) -> Effect<VReg>
+    requires { at < 4294967295 }
+    ensures { result ≡ onward (RegisterOf to value) (at + 1) }
+{
+    Effect::onward(Change::Register { to, value }, at + 1)
+}
+
+/// The target where a jump is taken, else the next instruction.
+fn branched(taken: bool, target: u32, at: u32) -> Effect<VReg>
+    requires { at < 4294967295 }
+    ensures { result ≡ onward NothingOf (if taken then target else at + 1) }
+{
+    Effect::onward(Change::Nothing, if taken { target } else { at + 1 })
+}
+
 /// What a division does: it writes its quotient, or traps where there is none.
-fn divided(quotient: Option<u32>, to: VReg, registers: &Registers, line: u32, at: u32) -> Did
-    requires small { at < 4294967295 }
-    requires named { to.0 < length registers.now }
-    ensures within { StaysWithin (length registers.now) (at + 1) result }
-    ensures table { effect_seen result ≡ divided quotient to line at }
+fn divided(quotient: Option<u32>, to: VReg, line: u32, at: u32) -> Effect<VReg>
+    requires { at < 4294967295 }
+    ensures { result ≡ divided quotient to line at }
 {
     match quotient {
-        Some(value) => Did::Onward {
-            write: Some((to, value)),
-            next: at + 1,
-        },
-        None => Did::Ends {
-            why: Stop::Divide { line },
-            pending: None,
-            next: at,
-        },
+        Some(value) => written(to, value, at),
+        None => Effect::stops(SegmentExit::Divide { line }, None, at),
     }
+}
+
+fn stored(address: u32, word: u32, line: u32, at: u32) -> Effect<VReg>
+    requires { at < 4294967295 }
+    ensures { result ≡ stops (StoreOf address word line) None (at + 1) }
+{
+    let why = SegmentExit::Store {
+        address,
+        word,
+        line,
+    };
+    Effect::stops(why, None, at + 1)
 }
 
 fn line_at(code: &[Line], at: u32) -> Option<Line>
@@ -149,12 +128,32 @@ fn line_at(code: &[Line], at: u32) -> Option<Line>
     code.get(at as usize).copied()
 }
 
-fn write_to(registers: &mut Registers, to_write: Option<(VReg, u32)>)
-    requires { IfSome to_write (λ w. (w.0).0 < length registers.old) }
-    ensures size { length registers.new ≡ length registers.old }
-    ensures written { registers.new ≡ written registers.old to_write }
+/// What the instruction at `at` of a context does; behind the last one it is a halt.
+fn effect_at(
+    context: u32,
+    code: &[Line],
+    registers: &Registers,
+    memory: &[u32],
+    at: u32,
+) -> Effect<VReg>
+    requires few { length code.now < 4294967295 }
+    requires named { AllNamed (length registers.now) code.now }
+    requires within { at ≤ length code.now }
+    ensures within { StaysWithin (length registers.now) (length code.now) result }
+    ensures table { (pending : Option Register) → result ≡ effect_here source_kind context memory.now code.now (context_at at registers.now pending) }
 {
-    if let Some((to, value)) = to_write {
+    match line_at(code, at) {
+        Some(line) => effect(context, line, registers, memory, at, code.len()),
+        None => Effect::stops(SegmentExit::Halt, None, at),
+    }
+}
+
+fn make(registers: &mut Registers, change: Change<VReg>)
+    requires { ChangesWithin (length registers.old) change }
+    ensures size { length registers.new ≡ length registers.old }
+    ensures written { registers.new ≡ written registers.old change }
+{
+    if let Change::Register { to, value } = change {
         registers.write(to, value);
     }
 }
@@ -164,6 +163,7 @@ pub(crate) fn stretch(
     context: u32,
     code: &[Line],
     registers: &mut Registers,
+    memory: &[u32],
     at: u32,
     pending: Option<VReg>,
     left: u32,
@@ -177,46 +177,28 @@ pub(crate) fn stretch(
     ensures next { result.at ≤ length code.now }
     ensures size { length registers.new ≡ length registers.old }
     ensures pending { IfSome result.pending (λ r. r.0 < length registers.new) }
-    ensures ended { gone_seen registers.new result ≡ stretch context code.now left (context_at at registers.old pending) }
+    ensures ended { gone_seen registers.new result ≡ stretch source_kind context memory.now code.now left (context_at at registers.old pending) }
 {
     let mut at = at;
     let mut steps = 0;
     'steps: while steps < left {
-        let Some(line) = line_at(code, at) else {
+        let does = effect_at(context, code, registers, memory, at);
+        make(registers, does.change);
+        at = does.next;
+        steps += 1;
+        if let Some(stopped) = does.stopped {
             return Ended {
                 at,
-                pending: None,
-                steps: steps + 1,
-                why: Stop::Halt,
+                pending: stopped.pending,
+                steps,
+                why: stopped.why,
             };
-        };
-        match effect(context, line.line, line.instr, registers, at, code.len()) {
-            Did::Onward {
-                write: to_write,
-                next,
-            } => {
-                write_to(registers, to_write);
-                at = next;
-                steps += 1;
-            }
-            Did::Ends {
-                why,
-                pending: awaited,
-                next,
-            } => {
-                return Ended {
-                    at: next,
-                    pending: awaited,
-                    steps: steps + 1,
-                    why,
-                };
-            }
         }
     }
     Ended {
         at,
         pending,
         steps,
-        why: Stop::Bound,
+        why: SegmentExit::Bound,
     }
 }

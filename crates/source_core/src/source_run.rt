@@ -2,16 +2,16 @@ ghost use Rattle.std.specs.Prelude.{◌≡◌, ◌≤◌, IfOk, IfErr, None, Som
 ghost use Rattle.micro_isa.specs.Formed.{IsFormedBundle};
 ghost use Rattle.world.specs.declared.event.Event.TheVariants.{Run as RunOf, Feed as FeedOf, Unplug as UnplugOf};
 ghost use Rattle.world.specs.declared.event.Seen.TheVariants.{Ran as RanOf, Fed as FedOf, Unplugged as UnpluggedOf};
-ghost use Rattle.meanings.specs.Core.{illegal_of, is_runnable, ending_of, shown_core};
-ghost use Rattle.meanings.specs.Events.{happens, step};
-ghost use Rattle.meanings.specs.Source.{Contexts, code_of, source_side, source_open};
-ghost use Rattle.run_core.specs.Segments.{GoesOn};
-ghost use Rattle.source_core.specs.SourceState.{moment_of, start_of, IsSound};
+ghost use Rattle.semantics.specs.Core.{illegal_of, is_runnable, ending_of, shown_core};
+ghost use Rattle.semantics.specs.Events.{fire, step};
+ghost use Rattle.semantics.specs.Source.{Contexts, code_of, source_semantics, source_open};
+ghost use Rattle.run_state.specs.Segments.{GoesOn};
+ghost use Rattle.source_core.specs.SourceState.{config_of, start_of, IsSound};
 
 use crate::context::{ContextState, go_on};
 use crate::registers::Registers;
 use micro_isa::{Bundle, Line, NoMemory, Program};
-use run_core::{Interpreter, RunCore};
+use run_state::{Interpreter, RunCore};
 use std::alloc::Global;
 use std::marker::Model;
 use world::{End, Event, Illegal, Seen, Segment, View};
@@ -41,7 +41,7 @@ impl SourceRun {
         requires formed { IsFormedBundle bundle.now }
         requires bound { bound ≤ 1048576 }
         ensures bundle { IfOk result (λ run. run.bundle ≡ bundle.now) }
-        ensures opening { IfOk result (λ run. moment_of run ≡ source_open bundle.now bound) }
+        ensures opening { IfOk result (λ run. config_of run ≡ source_open bundle.now bound) }
     {
         let core = RunCore::open(alloc, &bundle.setting, bundle.programs.len(), bound)?;
         let contexts = starts(alloc, bundle.programs.as_slice())?;
@@ -63,7 +63,7 @@ impl SourceRun {
     /// One event. An illegal one changes nothing and is answered by its first cause.
     pub fn event(&mut self, event: Event) -> Result<Seen, Illegal>
         ensures bundle { self.new.bundle ≡ self.old.bundle }
-        ensures legal { IfOk result (λ seen. step (source_side self.old.bundle) (moment_of self.old) event ≡ Some (moment_of self.new, seen)) }
+        ensures legal { IfOk result (λ seen. step (source_semantics self.old.bundle) (config_of self.old) event ≡ Some (config_of self.new, seen)) }
         ensures illegal { IfErr result (λ why. (illegal_of self.old.core event ≡ Some why) × (self.new ≡ self.old)) }
     {
         match self.illegal(event) {
@@ -75,7 +75,7 @@ impl SourceRun {
     fn happen(&mut self, event: Event) -> Seen
         requires legal { illegal_of self.old.core event ≡ None }
         ensures bundle { self.new.bundle ≡ self.old.bundle }
-        ensures happens { happens (source_side self.old.bundle) (moment_of self.old) event ≡ (moment_of self.new, result) }
+        ensures fire { fire (source_semantics self.old.bundle) (config_of self.old) event ≡ (config_of self.new, result) }
     {
         match event {
             Event::Run(context) => Seen::Ran(self.segment(context)),
@@ -107,9 +107,9 @@ impl SourceRun {
 impl Interpreter for SourceRun {
     ghost State = { Contexts };
 
-    ghost side = { λ s. source_side s.bundle };
+    ghost rules = { λ s. source_semantics s.bundle };
 
-    ghost moment = { moment_of };
+    ghost config = { config_of };
 
     fn contexts(&self) -> u32 {
         self.contexts.len() as u32
@@ -126,7 +126,7 @@ impl Interpreter for SourceRun {
     fn segment(&mut self, context: u32) -> Segment
         requires legal { illegal_of self.old.core (RunOf context) ≡ None }
         ensures bundle { self.new.bundle ≡ self.old.bundle }
-        ensures happens { happens (source_side self.old.bundle) (moment_of self.old) (RunOf context) ≡ (moment_of self.new, RanOf result) }
+        ensures fire { fire (source_semantics self.old.bundle) (config_of self.old) (RunOf context) ≡ (config_of self.new, RanOf result) }
         ensures goes_on { GoesOn self.old.core self.new.core }
     {
         segment_of(&self.bundle, &mut self.core, &mut self.contexts, context)
@@ -139,7 +139,7 @@ impl Interpreter for SourceRun {
     fn unplug(&mut self, channel: u8)
         requires legal { illegal_of self.old.core (UnplugOf channel) ≡ None }
         ensures bundle { self.new.bundle ≡ self.old.bundle }
-        ensures happens { happens (source_side self.old.bundle) (moment_of self.old) (UnplugOf channel) ≡ (moment_of self.new, UnpluggedOf) }
+        ensures fire { fire (source_semantics self.old.bundle) (config_of self.old) (UnplugOf channel) ≡ (config_of self.new, UnpluggedOf) }
     {
         self.core.unplug(channel);
     }
@@ -173,17 +173,19 @@ fn segment_of(
     requires legal { illegal_of core.old (RunOf context) ≡ None }
     ensures sound { IsSound bundle.now core.new contexts.new }
     ensures goes_on { GoesOn core.old core.new }
-    ensures happens { happens (source_side bundle.now) (moment_of (record { bundle = bundle.now; core = core.old; contexts = contexts.old })) (RunOf context)
-        ≡ (moment_of (record { bundle = bundle.now; core = core.new; contexts = contexts.new }), RanOf result) }
+    ensures fire { fire (source_semantics bundle.now) (config_of (record { bundle = bundle.now; core = core.old; contexts = contexts.old })) (RunOf context)
+        ≡ (config_of (record { bundle = bundle.now; core = core.new; contexts = contexts.new }), RanOf result) }
 {
     let done = core.complete(context);
     let left = core.steps_left();
     let code = code_of(bundle, context);
+    let memory = core.memory();
     let gone = go_on(
         context,
         code,
         &mut contexts[context as usize],
         done.received,
+        memory,
         left,
     );
     let end = core.finish(context, gone.steps, gone.why);

@@ -86,6 +86,13 @@ impl World {
         self.channels.get(channel as usize)
     }
 
+    /// The words of memory.
+    pub fn memory(&self) -> &[u32]
+        ensures { result.now ≡ self.now.memory }
+    {
+        self.memory.as_slice()
+    }
+
     /// The number of words of memory.
     pub fn memory_size(&self) -> usize
         ensures { result ≡ length self.now.memory }

@@ -1,9 +1,9 @@
 use Rattle.std.proofs.Common.{◌≡◌, ◌+◌, List, drop, true, sym, ap, ◌∙◌, subst}
 use Rattle.std.proofs.lemmas.List.{take_rest}
-use Rattle.text_lines.specs.Cutting.{TextLine}
-use Rattle.text_lines.specs.Faults.{Causes}
-use Rattle.text_lines.specs.Tables.{words_seen}
-use Rattle.header_text.specs.Views.{seen_header}
+use Rattle.asm_lines.specs.Cutting.{TextLine}
+use Rattle.asm_lines.specs.Faults.{Causes}
+use Rattle.asm_lines.specs.Tables.{words_seen}
+use Rattle.asm_header.specs.Views.{seen_header}
 use Rattle.asm_text.specs.Contexts.{starts, ahead, context_fault}
 use Rattle.asm_text.proofs.Walking.{caused_here}
 use Rattle.asm_text.proofs.context.read_contexts.Goals as goal

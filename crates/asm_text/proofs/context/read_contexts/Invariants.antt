@@ -1,6 +1,6 @@
 use Rattle.std.proofs.Common.{◌≡◌, ◌++◌, [], drop}
-use Rattle.text_lines.specs.Tables.{words_seen}
-use Rattle.header_text.specs.Views.{seen_header}
+use Rattle.asm_lines.specs.Tables.{words_seen}
+use Rattle.asm_header.specs.Views.{seen_header}
 use Rattle.asm_text.specs.Contexts.{contexts_fault, programs}
 use Rattle.asm_text.proofs.context.read_contexts.Given as goal
 

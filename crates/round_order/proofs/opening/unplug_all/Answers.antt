@@ -7,5 +7,5 @@ pub channels-preserved : goal.channels-preserved
 channels-preserved g c =
     let i = c.channels.invariant in
     let k = c.channels.channel in
-    let did = subst (λ s. UnpluggedAt s (g.I.Interpreter.moment c.channels.run) (g.I.Interpreter.moment c.unplug_at.new.run) k c.channels.entries.items c.unplug_at.new.entries.items) i.0 c.in_ok-unplug_at.ensures.unplugged in
-    (c.unplug_at.ensures.side ∙ i.0, opened_more (g.I.Interpreter.side c.args.run.now) (g.I.Interpreter.moment c.args.run.now) (g.I.Interpreter.moment c.channels.run) (g.I.Interpreter.moment c.unplug_at.new.run) k c.channels.entries.items c.unplug_at.new.entries.items i.1 did)
+    let did = subst (λ s. UnpluggedAt s (g.I.Interpreter.config c.channels.run) (g.I.Interpreter.config c.unplug_at.new.run) k c.channels.entries.items c.unplug_at.new.entries.items) i.0 c.in_ok-unplug_at.ensures.unplugged in
+    (c.unplug_at.ensures.rules ∙ i.0, opened_more (g.I.Interpreter.rules c.args.run.now) (g.I.Interpreter.config c.args.run.now) (g.I.Interpreter.config c.channels.run) (g.I.Interpreter.config c.unplug_at.new.run) k c.channels.entries.items c.unplug_at.new.entries.items i.1 did)

@@ -5,10 +5,10 @@ use Rattle.round_order.proofs.order.take_turns.Given as goal
 
 abbrev pub invariant-turns : goal.invariant-turns
 invariant-turns g l =
-    (g.I.Interpreter.side l.run ≡ g.I.Interpreter.side l.fn.run)
-    × IsRunSoFar (g.I.Interpreter.side l.fn.run) (g.I.Interpreter.moment l.fn.run) (g.I.Interpreter.moment l.run) l.fn.entries.items l.entries.items l.last
+    (g.I.Interpreter.rules l.run ≡ g.I.Interpreter.rules l.fn.run)
+    × IsRunSoFar (g.I.Interpreter.rules l.fn.run) (g.I.Interpreter.config l.fn.run) (g.I.Interpreter.config l.run) l.fn.entries.items l.entries.items l.last
 
 abbrev pub decreases-turns : goal.decreases-turns
 decreases-turns g l =
-    let core = (g.I.Interpreter.moment l.run).core in
+    let core = (g.I.Interpreter.config l.run).core in
     if core.over then 0 else suc (core.world.bound - core.steps)

@@ -1,6 +1,8 @@
 use Rattle.std.proofs.Common.{◌≡◌, ◌-◌, ◌≤◌, length}
-use Rattle.source_core.specs.Steps.{later, context_at}
-use Rattle.meanings.specs.Source.{stretch}
+use Rattle.semantics.specs.Stretches.{stretch, counted_from}
+use Rattle.semantics.specs.Source.{source_kind}
+use Rattle.semantics.proofs.Stretching.{later}
+use Rattle.source_core.specs.Steps.{context_at}
 use Rattle.source_core.proofs.instructions.stretch.Given as goal
 
 abbrev pub invariant-steps : goal.invariant-steps
@@ -8,7 +10,7 @@ invariant-steps l =
     (l.steps ≤ l.left)
     × (l.at ≤ length l.code)
     × (length l.registers ≡ length l.initial.registers)
-    × (later l.steps (stretch l.context l.code (l.left - l.steps) (context_at l.at l.registers l.pending)) ≡ stretch l.context l.code l.left (context_at l.fn.at l.fn.registers l.pending))
+    × (later l.steps (counted_from source_kind l.context l.memory l.code (l.left - l.steps) (context_at l.at l.registers l.pending)) ≡ stretch source_kind l.context l.memory l.code l.left (context_at l.fn.at l.fn.registers l.pending))
 
 abbrev pub decreases-steps : goal.decreases-steps
 decreases-steps l = l.left - l.steps

@@ -1,5 +1,5 @@
 use Rattle.std.proofs.Common.{ap, ◌∙◌, replicate, None}
-use Rattle.meanings.specs.Core.{opening_core}
+use Rattle.semantics.specs.Core.{opening_core}
 use Rattle.engine_core.specs.declared.place.ContextPlace.{ContextPlace}
 use Rattle.engine_core.proofs.Opening.{opens_sound, opens}
 use Rattle.engine_core.proofs.engine.Engine.open.Goals as goal

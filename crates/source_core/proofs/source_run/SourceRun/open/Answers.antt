@@ -1,5 +1,5 @@
 use Rattle.std.proofs.Common.{ap, ◌∙◌, map}
-use Rattle.meanings.specs.Core.{opening_core}
+use Rattle.semantics.specs.Core.{opening_core}
 use Rattle.source_core.specs.SourceState.{start_of}
 use Rattle.source_core.proofs.Opening.{opens_sound, opens}
 use Rattle.source_core.proofs.source_run.SourceRun.open.Goals as goal

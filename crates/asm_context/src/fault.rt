@@ -1,0 +1,158 @@
+ghost use Rattle.std.specs.Prelude.{◌≡◌, ◌||◌, [], ◌∷◌, not, length, slice_get, is_some, option_map, if◌then◌else◌};
+ghost use Rattle.std.specs.List.{list_any};
+ghost use Rattle.micro_isa.specs.Formed.{gives_words, takes_words};
+ghost use Rattle.asm_lines.specs.Numbers.{is_no_number};
+ghost use Rattle.asm_lines.specs.Tables.{words_seen, knows, misnamed, one};
+ghost use Rattle.asm_context.specs.Forms.{registers_in, number_in, goes_to};
+ghost use Rattle.asm_context.specs.Faults.{channels, is_misnamed, is_loose, gives_none, takes_none, body_fault};
+ghost use Rattle.asm_context.specs.Views.{seen_form, seen_body, seen_said};
+
+use crate::form::{Body, Form, does, ends, goes_to, receives_from, sends_to};
+use crate::said::Said;
+use asm_lines::{
+    BundleKind, MOST_INSTRUCTIONS, MOST_REGISTERS, is_misnamed, is_stray, place_of, word_number,
+};
+use indexmap::IndexSet;
+use micro_isa::{Channel, is_name};
+
+fn are_misnamed(a: &[u8], b: &[u8]) -> bool
+    ensures { result ≡ misnamed (a.now ∷ b.now ∷ []) }
+{
+    !is_name(a) || !is_name(b)
+}
+
+fn has_bad_register(form: Form) -> bool
+    ensures { result ≡ misnamed (registers_in (seen_form form.entry)) }
+{
+    match form {
+        Form::Li { to, .. } => !is_name(to),
+        Form::Mov { to, from } => are_misnamed(to, from),
+        Form::Alu { to, a, b, .. } => !is_name(to) || are_misnamed(a, b),
+        Form::Div { to, a, b, .. } => !is_name(to) || are_misnamed(a, b),
+        Form::Ctx { to } => !is_name(to),
+        Form::Branch { a, b, .. } => are_misnamed(a, b),
+        Form::Load { to, address } => are_misnamed(to, address),
+        Form::Store { address, from } => are_misnamed(address, from),
+        Form::Recv { to, .. } => !is_name(to),
+        Form::Send { from, .. } => !is_name(from),
+        _ => false,
+    }
+}
+
+fn has_bad_name(body: Body) -> bool
+    ensures { result ≡ is_misnamed (seen_body body.entry) }
+{
+    is_misnamed(body.label)
+        || has_bad_register(body.form)
+        || is_misnamed(goes_to(body.form))
+        || is_misnamed(receives_from(body.form))
+        || is_misnamed(sends_to(body.form))
+}
+
+fn has_bad_number(form: Form) -> bool
+    ensures { result ≡ list_any is_no_number (one (number_in (seen_form form.entry))) }
+{
+    match form {
+        Form::Li { n, .. } => word_number(n).is_none(),
+        _ => false,
+    }
+}
+
+fn gives_words(channel: Option<&Channel>) -> bool
+    ensures { result ≡ gives_words (option_map (λ c. c.now) channel.entry) }
+{
+    match channel {
+        Some(Channel::Inner { .. }) => true,
+        Some(Channel::Input { .. }) => true,
+        _ => false,
+    }
+}
+
+fn takes_words(channel: Option<&Channel>) -> bool
+    ensures { result ≡ takes_words (option_map (λ c. c.now) channel.entry) }
+{
+    match channel {
+        Some(Channel::Inner { .. }) => true,
+        Some(Channel::Output { .. }) => true,
+        _ => false,
+    }
+}
+
+fn gives_none<'a>(names: &IndexSet<&'a [u8]>, kinds: &[Channel], channel: Option<&'a [u8]>) -> bool
+    ensures { result ≡ gives_none (channels (words_seen names.now.keys) kinds.now) (option_map (λ n. n.now) channel.entry) }
+{
+    match channel {
+        Some(name) => !gives_words(kinds.get(place_of(names, name))),
+        None => false,
+    }
+}
+
+fn takes_none<'a>(names: &IndexSet<&'a [u8]>, kinds: &[Channel], channel: Option<&'a [u8]>) -> bool
+    ensures { result ≡ takes_none (channels (words_seen names.now.keys) kinds.now) (option_map (λ n. n.now) channel.entry) }
+{
+    match channel {
+        Some(name) => !takes_words(kinds.get(place_of(names, name))),
+        None => false,
+    }
+}
+
+fn is_loose(body: Body) -> bool
+    ensures { result ≡ is_loose (seen_body body.entry) }
+{
+    if does(body.form) {
+        !ends(body.form)
+    } else {
+        body.label.is_some()
+    }
+}
+
+/// The first kind of fault that a line has: `twice` where its label stands earlier, `now` what the lines say
+/// as far as this one, `all` what all lines of the context say.
+pub fn body_fault<'a>(
+    names: &IndexSet<&'a [u8]>,
+    kinds: &[Channel],
+    twice: bool,
+    now: &Said<'a>,
+    all: &Said<'a>,
+    fair: bool,
+    body: Body<'a>,
+) -> Option<BundleKind>
+    ensures { result ≡ body_fault (channels (words_seen names.now.keys) kinds.now) twice (seen_said now.now) (seen_said all.now) fair (seen_body body.entry) }
+{
+    if !fair {
+        return Some(BundleKind::Byte);
+    }
+    if matches!(body.form, Form::Unknown) {
+        return Some(BundleKind::Directive);
+    }
+    if matches!(body.form, Form::Miscounted) {
+        return Some(BundleKind::Operands);
+    }
+    if has_bad_name(body) {
+        return Some(BundleKind::Name);
+    }
+    if has_bad_number(body.form) {
+        return Some(BundleKind::Number);
+    }
+    if MOST_REGISTERS < now.registers.len() || MOST_INSTRUCTIONS < now.done {
+        return Some(BundleKind::Limit);
+    }
+    if twice {
+        return Some(BundleKind::LabelTwice);
+    }
+    if is_stray(names, receives_from(body.form)) || is_stray(names, sends_to(body.form)) {
+        return Some(BundleKind::ChannelUnknown);
+    }
+    if gives_none(names, kinds, receives_from(body.form))
+        || takes_none(names, kinds, sends_to(body.form))
+    {
+        return Some(BundleKind::ChannelKind);
+    }
+    if is_stray(&all.labels, goes_to(body.form)) {
+        return Some(BundleKind::LabelUnknown);
+    }
+    if now.done == all.done && is_loose(body) {
+        return Some(BundleKind::FallsOff);
+    }
+    None
+}

@@ -1,0 +1,130 @@
+ghost use Rattle.std.specs.Prelude.{◌≡◌, ◌++◌, ◌<◌, ◌≤◌, [], None, IfOk, OnOk, IfErr, length, true};
+ghost use Rattle.std.specs.List.{list_all};
+ghost use Rattle.micro_isa.specs.Names.{IsName, name_test};
+ghost use Rattle.asm_lines.specs.Faults.{Causes, at_or};
+ghost use Rattle.asm_lines.specs.Limits.{most_channels};
+ghost use Rattle.asm_lines.specs.Tables.{words_seen};
+ghost use Rattle.asm_context.specs.Faults.{channels, line_fault, lines_fault};
+ghost use Rattle.asm_context.specs.Programs.{line_code, code_of, labels_from, program_of};
+ghost use Rattle.asm_context.specs.Said.{with_line, said_by};
+ghost use Rattle.asm_context.specs.Views.{seen_said};
+
+use crate::fault::body_fault;
+use crate::form::body_of;
+use crate::program::{labels_of, push_code};
+use crate::said::{Said, note, nothing, survey};
+use asm_lines::{BundleFault, Row, has_name, name_of, names_of};
+use indexmap::IndexSet;
+use micro_isa::{Channel, Line, List, NoMemory, Program};
+use std::alloc::Global;
+
+/// One line of a context.
+fn read_line<'a>(
+    names: &IndexSet<&'a [u8]>,
+    kinds: &[Channel],
+    now: &mut Said<'a>,
+    all: &Said<'a>,
+    code: &mut List<Line>,
+    row: &Row<'a>,
+) -> Result<(), BundleFault>
+    requires done { now.old.done < 4294967295 }
+    requires channels { length names.now.keys ≤ most_channels }
+    ensures said { OnOk result (seen_said now.new ≡ with_line (seen_said now.old) row.now) }
+    ensures fine { OnOk result (line_fault (channels (words_seen names.now.keys) kinds.now) (seen_said now.old) (seen_said all.now) row.now ≡ None) }
+    ensures code { OnOk result (code.new ≡ code.old ++ line_code (words_seen names.now.keys) (seen_said now.old) (seen_said all.now) row.now) }
+    ensures cause { IfErr result (λ why. Causes why (at_or row.now.number (line_fault (channels (words_seen names.now.keys) kinds.now) (seen_said now.old) (seen_said all.now) row.now) None)) }
+{
+    let body = body_of(row.words());
+    let twice = has_name(&now.labels, body.label);
+    if note(now, body).is_err() {
+        return Err(BundleFault::NoMemory);
+    }
+    if let Some(kind) = body_fault(names, kinds, twice, now, all, row.fair(), body) {
+        return Err(BundleFault::At {
+            line: row.number(),
+            kind,
+        });
+    }
+    if push_code(code, row.number(), &now.registers, names, all, body.form).is_err() {
+        return Err(BundleFault::NoMemory);
+    }
+    Ok(())
+}
+
+/// The instructions of a context's lines, of which `all` is what they say.
+fn read_lines<'a>(
+    alloc: Global,
+    names: &IndexSet<&'a [u8]>,
+    kinds: &[Channel],
+    all: &Said<'a>,
+    rows: &[Row<'a>],
+) -> Result<List<Line>, BundleFault>
+    requires said { seen_said all.now ≡ said_by rows.now }
+    requires rows { length rows.now < 4294967295 }
+    requires channels { length names.now.keys ≤ most_channels }
+    ensures free { OnOk result (lines_fault (channels (words_seen names.now.keys) kinds.now) rows.now ≡ None) }
+    ensures code { IfOk result (λ code. code ≡ code_of (words_seen names.now.keys) rows.now) }
+    ensures cause { IfErr result (λ why. Causes why (lines_fault (channels (words_seen names.now.keys) kinds.now) rows.now)) }
+{
+    let mut now = nothing(alloc);
+    let mut code = List::new(alloc);
+    for row in rows {
+        match read_line(names, kinds, &mut now, all, &mut code, row) {
+            Ok(()) => {}
+            Err(why) => return Err(why),
+        }
+    }
+    Ok(code)
+}
+
+/// The program of a context of this name that the lines say, where they say no more than names.
+fn program_of<'a>(
+    alloc: Global,
+    name: &[u8],
+    all: &Said<'a>,
+    code: List<Line>,
+) -> Result<Program, NoMemory>
+    requires name { IsName name.now }
+    requires labels { list_all name_test (words_seen all.now.labels.keys) ≡ true }
+    requires registers { list_all name_test (words_seen all.now.registers.keys) ≡ true }
+    ensures { IfOk result (λ p. p ≡ record { name = name.now; registers = words_seen all.now.registers.keys; labels = labels_from 0 (words_seen all.now.labels.keys) all.now.targets.items; code = code }) }
+{
+    let name = name_of(alloc, name)?;
+    let registers = names_of(alloc, all.registers.as_slice())?;
+    let labels = labels_of(alloc, all.labels.as_slice(), all.targets.as_slice())?;
+    Ok(Program {
+        name,
+        registers,
+        labels,
+        code,
+    })
+}
+
+/// The program of a context, or the first fault of its lines. `names` and `kinds` are those of the channels.
+pub fn read_context<'a>(
+    alloc: Global,
+    names: &IndexSet<&'a [u8]>,
+    kinds: &[Channel],
+    name: &[u8],
+    rows: &[Row<'a>],
+) -> Result<Program, BundleFault>
+    requires name { IsName name.now }
+    requires rows { length rows.now < 4294967295 }
+    requires channels { length names.now.keys ≤ most_channels }
+    ensures free { OnOk result (lines_fault (channels (words_seen names.now.keys) kinds.now) rows.now ≡ None) }
+    ensures program { IfOk result (λ p. p ≡ program_of (words_seen names.now.keys) name.now rows.now) }
+    ensures cause { IfErr result (λ why. Causes why (lines_fault (channels (words_seen names.now.keys) kinds.now) rows.now)) }
+{
+    let all = match survey(alloc, rows) {
+        Ok(all) => all,
+        Err(_) => return Err(BundleFault::NoMemory),
+    };
+    let code = match read_lines(alloc, names, kinds, &all, rows) {
+        Ok(code) => code,
+        Err(why) => return Err(why),
+    };
+    match program_of(alloc, name, &all, code) {
+        Ok(program) => Ok(program),
+        Err(_) => Err(BundleFault::NoMemory),
+    }
+}

@@ -1,0 +1,129 @@
+ghost use Rattle.std.specs.Prelude.{◌≡◌, ◌+◌, ◌<◌, OnOk, IfOk, fold, length, option_map};
+ghost use Rattle.asm_lines.specs.Tables.{words_seen, knows, declare, one};
+ghost use Rattle.asm_context.specs.Forms.{does, registers_in};
+ghost use Rattle.asm_context.specs.Said.{nothing, targets_after, count, with_body, said_by};
+ghost use Rattle.asm_context.specs.Views.{seen_form, seen_body, seen_said};
+
+use crate::form::{Body, Form, body_of, does};
+use asm_lines::{Row, declare};
+use indexmap::IndexSet;
+use micro_isa::NoMemory;
+use std::alloc::Global;
+
+/// What lines of a context say together: labels and registers in the order of their first appearance, for
+/// each label the number of the instruction that it names, and how many instruction lines there are.
+#[derive(Drop)]
+pub struct Said<'a> {
+    pub labels: IndexSet<&'a [u8]>,
+    pub targets: Vec<u32>,
+    pub registers: IndexSet<&'a [u8]>,
+    pub done: u32,
+}
+
+pub fn nothing<'a>(alloc: Global) -> Said<'a>
+    ensures seen { seen_said result ≡ nothing }
+    ensures none { result.done ≡ 0 }
+{
+    Said {
+        labels: IndexSet::new(alloc),
+        targets: Vec::new(alloc),
+        registers: IndexSet::new(alloc),
+        done: 0,
+    }
+}
+
+fn note_label<'a>(
+    labels: &mut IndexSet<&'a [u8]>,
+    targets: &mut Vec<u32>,
+    done: u32,
+    label: Option<&'a [u8]>,
+) -> Result<(), NoMemory>
+    ensures labels { OnOk result (words_seen labels.new.keys ≡ fold declare (words_seen labels.old.keys) (one (option_map (λ n. n.now) label.entry))) }
+    ensures targets { OnOk result (targets.new.items ≡ targets_after (words_seen labels.old.keys) targets.old.items done (option_map (λ n. n.now) label.entry)) }
+{
+    let Some(name) = label else {
+        return Ok(());
+    };
+    if declare(labels, name)? {
+        match targets.push(done) {
+            Ok(()) => {}
+            Err(_) => return Err(NoMemory),
+        }
+    }
+    Ok(())
+}
+
+fn declare_two<'a>(names: &mut IndexSet<&'a [u8]>, a: &'a [u8], b: &'a [u8]) -> Result<(), NoMemory>
+    ensures { OnOk result (words_seen names.new.keys ≡ declare (declare (words_seen names.old.keys) a.now) b.now) }
+{
+    declare(names, a)?;
+    declare(names, b)?;
+    Ok(())
+}
+
+fn declare_one<'a>(names: &mut IndexSet<&'a [u8]>, name: &'a [u8]) -> Result<(), NoMemory>
+    ensures { OnOk result (words_seen names.new.keys ≡ declare (words_seen names.old.keys) name.now) }
+{
+    declare(names, name)?;
+    Ok(())
+}
+
+fn declare_three<'a>(
+    names: &mut IndexSet<&'a [u8]>,
+    to: &'a [u8],
+    a: &'a [u8],
+    b: &'a [u8],
+) -> Result<(), NoMemory>
+    ensures { OnOk result (words_seen names.new.keys ≡ declare (declare (declare (words_seen names.old.keys) to.now) a.now) b.now) }
+{
+    declare(names, to)?;
+    declare_two(names, a, b)
+}
+
+fn note_registers<'a>(registers: &mut IndexSet<&'a [u8]>, form: Form<'a>) -> Result<(), NoMemory>
+    ensures { OnOk result (words_seen registers.new.keys ≡ fold declare (words_seen registers.old.keys) (registers_in (seen_form form.entry))) }
+{
+    match form {
+        Form::Li { to, .. } => declare_one(registers, to),
+        Form::Mov { to, from } => declare_two(registers, to, from),
+        Form::Alu { to, a, b, .. } => declare_three(registers, to, a, b),
+        Form::Div { to, a, b, .. } => declare_three(registers, to, a, b),
+        Form::Ctx { to } => declare_one(registers, to),
+        Form::Branch { a, b, .. } => declare_two(registers, a, b),
+        Form::Load { to, address } => declare_two(registers, to, address),
+        Form::Store { address, from } => declare_two(registers, address, from),
+        Form::Recv { to, .. } => declare_one(registers, to),
+        Form::Send { from, .. } => declare_one(registers, from),
+        _ => Ok(()),
+    }
+}
+
+fn counted(done: u32, form: Form) -> u32
+    requires { done < 4294967295 }
+    ensures { result ≡ done + count (does (seen_form form.entry)) }
+{
+    if does(form) { done + 1 } else { done }
+}
+
+/// Notes one more line.
+pub fn note<'a>(said: &mut Said<'a>, body: Body<'a>) -> Result<(), NoMemory>
+    requires { said.old.done < 4294967295 }
+    ensures { OnOk result (seen_said said.new ≡ with_body (seen_said said.old) (seen_body body.entry)) }
+{
+    note_label(&mut said.labels, &mut said.targets, said.done, body.label)?;
+    note_registers(&mut said.registers, body.form)?;
+    said.done = counted(said.done, body.form);
+    Ok(())
+}
+
+/// What all lines of a context say.
+pub fn survey<'a>(alloc: Global, rows: &[Row<'a>]) -> Result<Said<'a>, NoMemory>
+    requires { length rows.now < 4294967295 }
+    ensures { IfOk result (λ s. seen_said s ≡ said_by rows.now) }
+{
+    let mut all = nothing(alloc);
+    for row in rows {
+        note(&mut all, body_of(row.words()))?;
+    }
+    Ok(all)
+}

@@ -1,0 +1,261 @@
+-- A header whose lines have no fault is sound.
+use Rattle.std.proofs.Common.{◌≡◌, ◌||◌, ◌&&◌, ◌++◌, ◌≤◌, ◌<◌, ℕ, ◌+◌, Bool, true, false, not, List, [], ◌∷◌, Option, Some, None, length, map, fold, append-nil, refl, sym, ap, ◌∙◌, arith, subst, nat_eq, nat_lt}
+use Rattle.std.specs.Prelude.{nat_le, sum, slice_get}
+use Rattle.std.specs.List.{list_any, list_all, filter_map}
+use Rattle.std.proofs.lemmas.Bool.{true≢false, and_parts, and_from, leb-true, leb-false, ltb-false, lt-ltb}
+use Rattle.std.proofs.lemmas.Option.{same_Some}
+use Rattle.std.proofs.lemmas.List.{length-append, length-map, map-append}
+use Rattle.std.proofs.lemmas.List.Elements.{filter_map-append}
+use Rattle.std.proofs.lemmas.List.Folds.{list_all-append}
+use Rattle.micro_isa.specs.declared.program.Channel.{Channel}
+use Rattle.micro_isa.specs.declared.program.Channel.TheVariants as channel
+use Rattle.micro_isa.specs.Names.{name_test}
+use Rattle.micro_isa.specs.Formed.{is_distinct, all_below, has_formed_ring, port_of, initial_count}
+use Rattle.asm_lines.specs.Cutting.{TextLine}
+use Rattle.asm_lines.specs.Limits.{most_channels, most_initial_words, largest_file, largest_memory, largest_ring, ports}
+use Rattle.asm_lines.specs.Numbers.{number_or}
+use Rattle.asm_lines.specs.Tables.{knows, place_of, declare}
+use Rattle.asm_lines.proofs.First.{none_met, none_at}
+use Rattle.asm_lines.proofs.Known.{distinct_snoc, distinct_declare, named_declare, declare_new, other_number}
+use Rattle.asm_header.specs.Forms.{HeaderForm, Blank, File, Memory, Inner, Input, PortInput, Output, PortOutput, Initial, Miscounted, Unknown, header_form}
+use Rattle.asm_header.specs.Headers.{Header, no_header, header_of, with_form, with_line, PortFits}
+use Rattle.asm_header.specs.Faults.{is_from, is_bad_port, is_input, form_tests, form_fault, line_fault, faults_after, header_fault}
+use Rattle.asm_header.specs.Sound.{IsSound}
+use Rattle.asm_header.proofs.Filling.{filled_length, filled_ports, filled_rings, filled_count, sum_cons}
+
+pub sound_none : IsSound no_header
+sound_none = record {
+  file = λ n e. absurd (cc);
+  memory = λ n e. absurd (cc);
+  few = omega arith;
+  same = refl;
+  named = refl;
+  distinct = refl;
+  rings = refl;
+  ports = refl;
+  apart = refl;
+  counted = refl;
+  words = omega arith;
+}
+
+not_false : (b : Bool) → not b ≡ false → b ≡ true
+not_false true e = refl
+not_false false e = absurd (true≢false e)
+
+-- a channel that is added under a new name
+record IsAdded (h : Header) (name : List ℕ) (c : Channel) : Type 0 where
+  is_name : name_test name ≡ true
+  is_new : knows h.names name ≡ false
+  room : length h.names < most_channels
+  ring : has_formed_ring c ≡ true
+  none : initial_count c ≡ 0
+  port : (p : ℕ) → port_of c ≡ Some p → (p < ports) × (list_any (nat_eq p) (filter_map port_of h.channels) ≡ false)
+
+sum_snoc : (xs : List ℕ) (x : ℕ) → sum (xs ++ x ∷ []) ≡ sum xs + x
+sum_snoc [] x = omega (arith, sum_cons x [])
+sum_snoc (y ∷ ys) x = omega (arith, sum_snoc ys x, sum_cons y (ys ++ x ∷ []), sum_cons y ys)
+
+no_port : (c : Channel) → port_of c ≡ None → filter_map port_of (c ∷ []) ≡ []
+no_port c e = rw e refl
+
+a_port : (c : Channel) (p : ℕ) → port_of c ≡ Some p → filter_map port_of (c ∷ []) ≡ p ∷ []
+a_port c p e = rw e refl
+
+-- the ports with that of one more channel
+ports_snoc : (chs : List Channel) (c : Channel) (o : Option ℕ) → port_of c ≡ o → ((p : ℕ) → o ≡ Some p → (p < ports) × (list_any (nat_eq p) (filter_map port_of chs) ≡ false)) → all_below ports (filter_map port_of chs) ≡ true → is_distinct nat_eq (filter_map port_of chs) ≡ true → (all_below ports (filter_map port_of (chs ++ c ∷ [])) ≡ true) × (is_distinct nat_eq (filter_map port_of (chs ++ c ∷ [])) ≡ true)
+ports_snoc chs c None e free below apart =
+    let same : filter_map port_of (chs ++ c ∷ []) ≡ filter_map port_of chs = filter_map-append port_of chs (c ∷ []) ∙ ap (λ l. filter_map port_of chs ++ l) (no_port c e) ∙ append-nil (filter_map port_of chs) in
+    (ap (all_below ports) same ∙ below, ap (is_distinct nat_eq) same ∙ apart)
+ports_snoc chs c (Some p) e free below apart =
+    let same : filter_map port_of (chs ++ c ∷ []) ≡ filter_map port_of chs ++ p ∷ [] = filter_map-append port_of chs (c ∷ []) ∙ ap (λ l. filter_map port_of chs ++ l) (a_port c p e) in
+    let ok = free p refl in (
+      ap (all_below ports) same ∙ list_all-append (λ x. nat_lt x ports) (filter_map port_of chs) (p ∷ []) ∙ and_from (all_below ports (filter_map port_of chs)) (nat_lt p ports && true) below (and_from (nat_lt p ports) true (lt-ltb p ports ok.0) refl),
+      ap (is_distinct nat_eq) same ∙ distinct_snoc nat_eq other_number (filter_map port_of chs) p apart ok.1,
+    )
+
+abbrev with_channel : Header → List ℕ → Channel → Header
+with_channel h name c = record { file = h.file; memory = h.memory; names = declare h.names name; channels = h.channels ++ c ∷ []; words = h.words }
+
+sound_added : (h : Header) (name : List ℕ) (c : Channel) → IsSound h → IsAdded h name c → IsSound (with_channel h name c)
+sound_added h name c s a =
+    let longer = ap length (declare_new h.names name a.is_new) ∙ length-append h.names (name ∷ []) in
+    let more = length-append h.channels (c ∷ []) in
+    let p = ports_snoc h.channels c (port_of c) refl a.port s.ports s.apart in
+    let counts = ap sum (map-append initial_count h.channels (c ∷ [])) ∙ sum_snoc (map initial_count h.channels) (initial_count c) in
+    record {
+      file = s.file;
+      memory = s.memory;
+      few = omega (arith, longer, a.room);
+      same = omega (arith, longer, more, s.same);
+      named = named_declare h.names name s.named a.is_name;
+      distinct = distinct_declare h.names name s.distinct;
+      rings = list_all-append has_formed_ring h.channels (c ∷ []) ∙ and_from (list_all has_formed_ring h.channels) (has_formed_ring c && true) s.rings (and_from (has_formed_ring c) true a.ring refl);
+      ports = p.0;
+      apart = p.1;
+      counted = omega (arith, counts, s.counted, a.none);
+      words = s.words;
+    }
+
+-- what the tests of a line say where they are not met
+
+first_of : (a : Bool) → (a || false) ≡ false → a ≡ false
+first_of true e = e
+first_of false e = refl
+
+name_part : (a : Bool) → ((not a || false) || false) ≡ false → a ≡ true
+name_part true e = refl
+name_part false e = absurd (true≢false e)
+
+size_part : (a : Bool) → (not a || false) ≡ false → a ≡ true
+size_part true e = refl
+size_part false e = absurd (true≢false e)
+
+ring_part : (ring full : Bool) → ((not ring || false) || (full || false)) ≡ false → (ring ≡ true) × (full ≡ false)
+ring_part true true e = absurd (true≢false e)
+ring_part true false e = (refl, refl)
+ring_part false full e = absurd (true≢false e)
+
+port_part : (a b : Bool) → ((a || b) || false) ≡ false → (a ≡ false) × (b ≡ false)
+port_part true b e = absurd (true≢false e)
+port_part false true e = absurd (true≢false e)
+port_part false false e = (refl, refl)
+
+has_room : (h : Header) → nat_le most_channels (length h.names) ≡ false → length h.names < most_channels
+has_room h e = leb-false most_channels (length h.names) e
+
+-- a port that is free
+free_port : (h : Header) (port : List ℕ) → (is_bad_port h.channels (number_or port) || false) ≡ false → (p : ℕ) → Some (number_or port) ≡ Some p → (p < ports) × (list_any (nat_eq p) (filter_map port_of h.channels) ≡ false)
+free_port h port e p same =
+    let parts = port_part (nat_le ports (number_or port)) (list_any (nat_eq (number_or port)) (filter_map port_of h.channels)) e in
+    subst (λ p. (p < ports) × (list_any (nat_eq p) (filter_map port_of h.channels) ≡ false)) (same_Some (number_or port) p same) (leb-false ports (number_or port) parts.0, parts.1)
+
+pub port_fits : (h : Header) (fair : Bool) (form : HeaderForm) → form_fault h fair form ≡ None → PortFits form
+port_fits h fair (PortInput name port capacity) e = (free_port h port (none_met (form_tests h fair (PortInput name port capacity)) e).1.1.1.1.1.1.0 (number_or port) refl).0
+port_fits h fair (PortOutput name port) e = (free_port h port (none_met (form_tests h fair (PortOutput name port)) e).1.1.1.1.1.1.0 (number_or port) refl).0
+port_fits h fair _ e = tt
+
+no_port_at : {A : Type 0} (p : ℕ) → None ≡ Some p → A
+no_port_at p e = absurd (cc)
+
+pub sound_form : (h : Header) (fair : Bool) (form : HeaderForm) → IsSound h → form_fault h fair form ≡ None → IsSound (with_form h form)
+sound_form h fair (File size) s e =
+    let t = none_met (form_tests h fair (File size)) e in
+    let range = and_parts (nat_le 1 (number_or size)) (nat_le (number_or size) largest_file) (size_part (is_from 1 largest_file size) t.1.1.1.1.1.0) in
+    let is : (1 ≤ number_or size) × (number_or size ≤ largest_file) = (leb-true 1 (number_or size) range.0, leb-true (number_or size) largest_file range.1) in
+    record {
+      file = λ n same. subst (λ n. (1 ≤ n) × (n ≤ largest_file)) (same_Some (number_or size) n same) is;
+      memory = s.memory;
+      few = s.few;
+      same = s.same;
+      named = s.named;
+      distinct = s.distinct;
+      rings = s.rings;
+      ports = s.ports;
+      apart = s.apart;
+      counted = s.counted;
+      words = s.words;
+    }
+sound_form h fair (Memory size) s e =
+    let t = none_met (form_tests h fair (Memory size)) e in
+    let range = and_parts (nat_le 0 (number_or size)) (nat_le (number_or size) largest_memory) (size_part (is_from 0 largest_memory size) t.1.1.1.1.1.0) in
+    let is = leb-true (number_or size) largest_memory range.1 in
+    record {
+      file = s.file;
+      memory = λ n same. subst (λ n. n ≤ largest_memory) (same_Some (number_or size) n same) is;
+      few = s.few;
+      same = s.same;
+      named = s.named;
+      distinct = s.distinct;
+      rings = s.rings;
+      ports = s.ports;
+      apart = s.apart;
+      counted = s.counted;
+      words = s.words;
+    }
+sound_form h fair (Inner name capacity) s e =
+    let t = none_met (form_tests h fair (Inner name capacity)) e in
+    let limits = ring_part (is_from 1 largest_ring capacity) (nat_le most_channels (length h.names)) t.1.1.1.1.1.0 in
+    sound_added h name (channel.Inner (number_or capacity)) s (record {
+      is_name = name_part (name_test name) t.1.1.1.0;
+      is_new = first_of (knows h.names name) t.1.1.1.1.1.1.1.0;
+      room = has_room h limits.1;
+      ring = limits.0;
+      none = refl;
+      port = λ p same. no_port_at p same;
+    })
+sound_form h fair (Input name) s e =
+    let t = none_met (form_tests h fair (Input name)) e in
+    sound_added h name (channel.Input [] None) s (record {
+      is_name = name_part (name_test name) t.1.1.1.0;
+      is_new = first_of (knows h.names name) t.1.1.1.1.1.1.1.0;
+      room = has_room h (first_of (nat_le most_channels (length h.names)) t.1.1.1.1.1.0);
+      ring = refl;
+      none = refl;
+      port = λ p same. no_port_at p same;
+    })
+sound_form h fair (PortInput name port capacity) s e =
+    let t = none_met (form_tests h fair (PortInput name port capacity)) e in
+    let limits = ring_part (is_from 1 largest_ring capacity) (nat_le most_channels (length h.names)) t.1.1.1.1.1.0 in
+    sound_added h name (channel.Input [] (Some (record { number = number_or port; capacity = number_or capacity }))) s (record {
+      is_name = name_part (name_test name) t.1.1.1.0;
+      is_new = first_of (knows h.names name) t.1.1.1.1.1.1.1.0;
+      room = has_room h limits.1;
+      ring = limits.0;
+      none = refl;
+      port = free_port h port t.1.1.1.1.1.1.0;
+    })
+sound_form h fair (Output name) s e =
+    let t = none_met (form_tests h fair (Output name)) e in
+    sound_added h name (channel.Output None) s (record {
+      is_name = name_part (name_test name) t.1.1.1.0;
+      is_new = first_of (knows h.names name) t.1.1.1.1.1.1.1.0;
+      room = has_room h (first_of (nat_le most_channels (length h.names)) t.1.1.1.1.1.0);
+      ring = refl;
+      none = refl;
+      port = λ p same. no_port_at p same;
+    })
+sound_form h fair (PortOutput name port) s e =
+    let t = none_met (form_tests h fair (PortOutput name port)) e in
+    sound_added h name (channel.Output (Some (number_or port))) s (record {
+      is_name = name_part (name_test name) t.1.1.1.0;
+      is_new = first_of (knows h.names name) t.1.1.1.1.1.1.1.0;
+      room = has_room h (first_of (nat_le most_channels (length h.names)) t.1.1.1.1.1.0);
+      ring = refl;
+      none = refl;
+      port = free_port h port t.1.1.1.1.1.1.0;
+    })
+sound_form h fair (Initial name numbers) s e =
+    let t = none_met (form_tests h fair (Initial name numbers)) e in
+    let at = place_of h.names name in
+    let more = map number_or numbers in
+    let is = size_part (is_input (slice_get h.channels at)) t.1.1.1.1.1.1.1.1.1.0 in
+    let fits = ltb-false most_initial_words (h.words + length numbers) (first_of (nat_lt most_initial_words (h.words + length numbers)) t.1.1.1.1.1.0) in
+    record {
+      file = s.file;
+      memory = s.memory;
+      few = s.few;
+      same = s.same ∙ sym (filled_length h.channels at more);
+      named = s.named;
+      distinct = s.distinct;
+      rings = filled_rings h.channels at more ∙ s.rings;
+      ports = ap (all_below ports) (filled_ports h.channels at more) ∙ s.ports;
+      apart = ap (is_distinct nat_eq) (filled_ports h.channels at more) ∙ s.apart;
+      counted = omega (arith, filled_count h.channels at more is, s.counted, length-map numbers number_or);
+      words = fits;
+    }
+sound_form h fair Blank s e = s
+sound_form h fair Miscounted s e = s
+sound_form h fair Unknown s e = s
+
+pub sound_line : (h : Header) (line : TextLine) → IsSound h → line_fault h line ≡ None → IsSound (with_line h line)
+sound_line h line s e = sound_form h line.fair (header_form line.words) s e
+
+sound_after : (h : Header) (lines : List TextLine) → IsSound h → faults_after h lines ≡ None → IsSound (fold with_line h lines)
+sound_after h [] s e = s
+sound_after h (line ∷ lines) s e =
+    let both = none_at line.number (line_fault h line) (faults_after (with_line h line) lines) e in
+    sound_after (with_line h line) lines (sound_line h line s both.0) both.1
+
+-- what lines without a fault say
+pub sound_header : (lines : List TextLine) → header_fault lines ≡ None → IsSound (header_of lines)
+sound_header lines e = sound_after no_header lines sound_none e

@@ -1,0 +1,76 @@
+-- The first fault of the lines before the first context.
+use Rattle.std.specs.Prelude.{ℕ, ◌+◌, ◌||◌, ◌&&◌, not, nat_le, nat_lt, nat_eq, Bool, true, false, List, [], ◌∷◌, Option, Some, None, is_some, length, slice_get}
+use Rattle.std.specs.List.{list_any, filter_map}
+use Rattle.micro_isa.specs.declared.program.Channel.{Channel}
+use Rattle.micro_isa.specs.declared.program.Channel.TheVariants as channel
+use Rattle.micro_isa.specs.Formed.{port_of}
+use Rattle.asm_lines.specs.declared.fault.BundleKind.{BundleKind}
+use Rattle.asm_lines.specs.declared.fault.BundleKind.TheVariants as kind
+use Rattle.asm_lines.specs.Cutting.{TextLine}
+use Rattle.asm_lines.specs.Faults.{At, first_kind, at_or}
+use Rattle.asm_lines.specs.Limits.{most_channels, most_initial_words, largest_file, largest_memory, largest_ring, ports}
+use Rattle.asm_lines.specs.Numbers.{number_or, is_no_number}
+use Rattle.asm_lines.specs.Tables.{knows, place_of, misnamed, one}
+use Rattle.asm_header.specs.Forms.{HeaderForm, File, Memory, Initial, header_form, is_unknown, is_miscounted, makes, fills, numbers_in, ring_in, port_in}
+use Rattle.asm_header.specs.Headers.{Header, no_header, with_line}
+
+abbrev pub is_from : ℕ → ℕ → List ℕ → Bool
+is_from least most word = nat_le least (number_or word) && nat_le (number_or word) most
+
+-- a size of the file or of memory outside its range, or too many initial words
+abbrev pub is_size_past : Header → HeaderForm → Bool
+is_size_past h (File size) = not (is_from 1 largest_file size)
+is_size_past h (Memory size) = not (is_from 0 largest_memory size)
+is_size_past h (Initial name numbers) = nat_lt most_initial_words (h.words + length numbers)
+is_size_past h _ = false
+
+-- a size outside its range, a ring's capacity too, or one channel too many
+abbrev pub is_past_limit : Header → HeaderForm → Bool
+is_past_limit h form =
+    is_size_past h form
+    || (list_any (λ capacity. not (is_from 1 largest_ring capacity)) (ring_in form)
+    || list_any (λ name. nat_le most_channels (length h.names)) (one (makes form)))
+
+-- a number that is no port's, or that of an earlier channel's port
+abbrev pub is_bad_port : List Channel → ℕ → Bool
+is_bad_port channels port = nat_le ports port || list_any (nat_eq port) (filter_map port_of channels)
+
+-- a second size, or a channel of an earlier name
+abbrev pub is_repeated : Header → HeaderForm → Bool
+is_repeated h (File size) = is_some h.file
+is_repeated h (Memory size) = is_some h.memory
+is_repeated h form = list_any (knows h.names) (one (makes form))
+
+abbrev pub is_input : Option Channel → Bool
+is_input (Some (channel.Input words port)) = true
+is_input _ = false
+
+-- the kinds of a line in their order, where `h` is what the earlier lines say
+abbrev pub form_tests : Header → Bool → HeaderForm → List (Bool × BundleKind)
+form_tests h fair form =
+    (not fair, kind.Byte)
+    ∷ (is_unknown form, kind.Directive)
+    ∷ (is_miscounted form, kind.Operands)
+    ∷ (misnamed (one (makes form)) || misnamed (one (fills form)), kind.Name)
+    ∷ (list_any is_no_number (numbers_in form), kind.Number)
+    ∷ (is_past_limit h form, kind.Limit)
+    ∷ (list_any (λ port. is_bad_port h.channels (number_or port)) (port_in form), kind.Port)
+    ∷ (is_repeated h form, kind.Repeated)
+    ∷ (list_any (λ name. not (knows h.names name)) (one (fills form)), kind.ChannelUnknown)
+    ∷ (list_any (λ name. not (is_input (slice_get h.channels (place_of h.names name)))) (one (fills form)), kind.ChannelKind)
+    ∷ []
+
+abbrev pub form_fault : Header → Bool → HeaderForm → Option BundleKind
+form_fault h fair form = first_kind (form_tests h fair form)
+
+abbrev pub line_fault : Header → TextLine → Option BundleKind
+line_fault h line = form_fault h line.fair (header_form line.words)
+
+-- the first fault of lines, where `h` is what the earlier lines say
+abbrev pub faults_after : Header → List TextLine → Option At
+faults_after h [] = None
+faults_after h (line ∷ lines) = at_or line.number (line_fault h line) (faults_after (with_line h line) lines)
+
+-- the first fault of the lines before the first context
+abbrev pub header_fault : List TextLine → Option At
+header_fault lines = faults_after no_header lines

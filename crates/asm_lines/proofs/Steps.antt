@@ -1,0 +1,56 @@
+-- One byte further in a text that is cut.
+use Rattle.std.proofs.Common.{◌≡◌, ◌++◌, ◌≤◌, ◌<◌, ℕ, zero, suc, ◌+◌, ◌-◌, ◌==◌, Bool, true, false, List, [], ◌∷◌, length, take, drop, get_or, refl, sym, ap, ◌∙◌, arith, add-one, append_assoc, if◌then◌else◌}
+use Rattle.std.proofs.Math.Seq.{take-suc, drop-cons}
+use Rattle.std.proofs.lemmas.List.{length-append, length-drop, get_or-drop}
+use Rattle.asm_lines.specs.Cutting.{words_from, lines_from, is_gap, piece, numbered, line_of, TextLine}
+
+more : (xs : List ℕ) (s i : ℕ) → s ≤ i → i < length xs → take (i + 1 - s) (drop s xs) ≡ take (i - s) (drop s xs) ++ get_or xs i 0 ∷ []
+more xs s i le lt =
+    let a : i + 1 - s ≡ suc (i - s) = omega arith in
+    let b : s + (i - s) ≡ i = omega arith in
+    ap (λ n. take n (drop s xs)) a
+    ∙ take-suc (drop s xs) (i - s) 0 (omega (arith, length-drop s xs))
+    ∙ ap (λ x. take (i - s) (drop s xs) ++ x ∷ []) (get_or-drop s xs (i - s) 0 ∙ ap (λ k. get_or xs k 0) b)
+
+next : (xs : List ℕ) (i : ℕ) → i < length xs → drop i xs ≡ get_or xs i 0 ∷ drop (i + 1) xs
+next xs i lt = rw (add-one i) (drop-cons xs i 0 lt)
+
+none_left : (xs : List ℕ) (n i : ℕ) → n ≡ i + 1 - (i + 1) → take n xs ≡ []
+none_left xs zero i e = refl
+none_left xs (suc n) i e = absurd (omega arith)
+
+words_cons : (sofar : List ℕ) (c : ℕ) (cs : List ℕ) (b : Bool) → is_gap c ≡ b → words_from sofar (c ∷ cs) ≡ (if b then piece sofar ++ words_from [] cs else words_from (sofar ++ c ∷ []) cs)
+words_cons sofar c cs b e = ap (λ b. if b then piece sofar ++ words_from [] cs else words_from (sofar ++ c ∷ []) cs) e
+
+lines_cons : (sofar : List ℕ) (c : ℕ) (cs : List ℕ) (b : Bool) → (c == 10) ≡ b → lines_from sofar (c ∷ cs) ≡ (if b then sofar ∷ lines_from [] cs else lines_from (sofar ++ c ∷ []) cs)
+lines_cons sofar c cs b e = ap (λ b. if b then sofar ∷ lines_from [] cs else lines_from (sofar ++ c ∷ []) cs) e
+
+pub words_on : (xs : List ℕ) (s i : ℕ) → s ≤ i → i < length xs → is_gap (get_or xs i 0) ≡ false → words_from (take (i - s) (drop s xs)) (drop i xs) ≡ words_from (take (i + 1 - s) (drop s xs)) (drop (i + 1) xs)
+words_on xs s i le lt e =
+    ap (words_from (take (i - s) (drop s xs))) (next xs i lt)
+    ∙ words_cons (take (i - s) (drop s xs)) (get_or xs i 0) (drop (i + 1) xs) false e
+    ∙ ap (λ t. words_from t (drop (i + 1) xs)) (sym (more xs s i le lt))
+
+pub words_cut : (xs : List ℕ) (s i : ℕ) → i < length xs → is_gap (get_or xs i 0) ≡ true → words_from (take (i - s) (drop s xs)) (drop i xs) ≡ piece (take (i - s) (drop s xs)) ++ words_from (take (i + 1 - (i + 1)) (drop (i + 1) xs)) (drop (i + 1) xs)
+words_cut xs s i lt e =
+    ap (words_from (take (i - s) (drop s xs))) (next xs i lt)
+    ∙ words_cons (take (i - s) (drop s xs)) (get_or xs i 0) (drop (i + 1) xs) true e
+    ∙ ap (λ t. piece (take (i - s) (drop s xs)) ++ words_from t (drop (i + 1) xs)) (sym (none_left (drop (i + 1) xs) _ i refl))
+
+pub lines_on : (xs : List ℕ) (s i : ℕ) → s ≤ i → i < length xs → (get_or xs i 0 == 10) ≡ false → lines_from (take (i - s) (drop s xs)) (drop i xs) ≡ lines_from (take (i + 1 - s) (drop s xs)) (drop (i + 1) xs)
+lines_on xs s i le lt e =
+    ap (lines_from (take (i - s) (drop s xs))) (next xs i lt)
+    ∙ lines_cons (take (i - s) (drop s xs)) (get_or xs i 0) (drop (i + 1) xs) false e
+    ∙ ap (λ t. lines_from t (drop (i + 1) xs)) (sym (more xs s i le lt))
+
+pub lines_cut : (xs : List ℕ) (s i : ℕ) → i < length xs → (get_or xs i 0 == 10) ≡ true → lines_from (take (i - s) (drop s xs)) (drop i xs) ≡ take (i - s) (drop s xs) ∷ lines_from (take (i + 1 - (i + 1)) (drop (i + 1) xs)) (drop (i + 1) xs)
+lines_cut xs s i lt e =
+    ap (lines_from (take (i - s) (drop s xs))) (next xs i lt)
+    ∙ lines_cons (take (i - s) (drop s xs)) (get_or xs i 0) (drop (i + 1) xs) true e
+    ∙ ap (λ t. take (i - s) (drop s xs) ∷ lines_from t (drop (i + 1) xs)) (sym (none_left (drop (i + 1) xs) _ i refl))
+
+-- one more line of those that were cut
+pub row_more : (rows new all : List TextLine) (l : List ℕ) (ls : List (List ℕ)) → rows ++ numbered (length rows + 1) (l ∷ ls) ≡ all → new ≡ rows ++ line_of (length rows + 1) l ∷ [] → new ++ numbered (length new + 1) ls ≡ all
+row_more rows new all l ls e n =
+    let k : length new ≡ length rows + 1 = ap length n ∙ length-append rows (line_of (length rows + 1) l ∷ []) in
+    rw k (rw n (rw append_assoc e))

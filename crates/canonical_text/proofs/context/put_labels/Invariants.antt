@@ -1,7 +1,0 @@
-use Rattle.std.proofs.Common.{◌≡◌, ◌++◌, map, take}
-use Rattle.canonical_text.specs.Rows.{rows_text}
-use Rattle.canonical_text.specs.Canonical.{label_row}
-use Rattle.canonical_text.proofs.context.put_labels.Given as goal
-
-abbrev pub invariant-loop-label : goal.invariant-loop-label
-invariant-loop-label l = l.text.items ≡ l.initial.text.items ++ rows_text (map label_row (take l.label-index l.labels))

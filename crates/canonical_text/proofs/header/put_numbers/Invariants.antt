@@ -1,6 +1,0 @@
-use Rattle.std.proofs.Common.{◌≡◌, ◌++◌, decimal, codes, map, take}
-use Rattle.canonical_text.specs.Rows.{led_by}
-use Rattle.canonical_text.proofs.header.put_numbers.Given as goal
-
-abbrev pub invariant-loop-n : goal.invariant-loop-n
-invariant-loop-n l = l.text.items ≡ l.initial.text.items ++ led_by (codes " ") (map decimal (take l.n-index l.words))

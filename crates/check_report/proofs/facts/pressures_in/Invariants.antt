@@ -1,5 +1,0 @@
-use Rattle.std.proofs.Common.{◌≡◌, map, take}
-use Rattle.check_report.proofs.facts.pressures_in.Given as goal
-
-abbrev pub invariant-loop-facts : goal.invariant-loop-facts
-invariant-loop-facts l = l.parts ≡ map (λ facts. facts.pressure) (take l.facts-index l.all)

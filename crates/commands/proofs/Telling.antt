@@ -1,0 +1,54 @@
+-- What tasks tell, from what their parts leave; and that what fits is served.
+use Rattle.std.proofs.Common.{◌≡◌, ℕ, ◌<◌, ◌≤◌, List, Bool, true, false, Some, None, sym, subst, arith, inl, inr}
+use Rattle.std.specs.Prelude.{◌||◌, if◌then◌else◌}
+use Rattle.std.specs.List.{list_any, list_all}
+use Rattle.micro_isa.specs.declared.program.Bundle.{Bundle}
+use Rattle.world.specs.declared.event.Phase.{Phase}
+use Rattle.world.specs.declared.event.End.{End}
+use Rattle.world.specs.declared.event.End.TheVariants as ending
+use Rattle.world.specs.WorldState.{has_open_input}
+use Rattle.semantics.specs.Agreement.{Implements}
+use Rattle.semantics.specs.Core.{Core, has_ended, some_runnable, ending_of}
+use Rattle.sliced_image.specs.Sliced.{sliced_need, sliced_image}
+use Rattle.commands.specs.declared.status.Status.{Status}
+use Rattle.commands.specs.declared.status.Status.TheVariants as status
+use Rattle.commands.specs.declared.task.Task.{Task}
+use Rattle.commands.specs.declared.task.Task.TheVariants as task
+use Rattle.commands.specs.Reports.{IsReport, has_trapped, status_of}
+use Rattle.commands.specs.Tells.{RunTells, Tells, Fits, IsServed, no_fit_line}
+
+pub run_tells : (steps : ℕ) (answer : Status) (b : Bundle) (text : List ℕ) → sliced_need b ≤ b.file → Implements (sliced_image b) b → IsReport steps (sliced_image b) (sliced_need b) answer text → RunTells steps answer b text
+run_tells steps answer b text fits same report = inr (record { fits = fits; same = same; report = report })
+
+pub no_fit_tells : (steps : ℕ) (answer : Status) (b : Bundle) (text : List ℕ) → b.file < sliced_need b → answer ≡ status.NoFit → text ≡ no_fit_line (sliced_need b) b.file → RunTells steps answer b text
+no_fit_tells steps answer b text above answered told = inl (record { answered = answered; above = above; told = told })
+
+-- an engine or interpreter never ends as idle
+never_idle : (core : Core) → ending_of core ≡ Some ending.Idle → ⊥
+never_idle core h = by core.over (list_all has_ended core.phases) (some_runnable core || has_open_input core.world) h
+  where
+    by : (o a r : Bool) → (if o then Some ending.Bound else (if a then Some ending.Finished else (if r then None else Some ending.Stuck))) ≡ Some ending.Idle → ⊥
+    by true a r h = absurd (cc)
+    by false true r h = absurd (cc)
+    by false false true h = absurd (cc)
+    by false false false h = absurd (cc)
+
+finished_served : (b : Bool) → IsServed (if b then status.Trapped else status.Done)
+finished_served true = tt
+finished_served false = tt
+
+ended_served : (core : Core) (end : End) (phases : List Phase) → ending_of core ≡ Some end → IsServed (status_of end phases)
+ended_served core ending.Finished phases h = finished_served (list_any has_trapped phases)
+ended_served core ending.Stuck phases h = tt
+ended_served core ending.Bound phases h = tt
+ended_served core ending.Idle phases h = absurd (never_idle core h)
+
+-- where nothing in the bundle is a cause, the task is served
+pub served : (t : Task) (answer : Status) (b : Bundle) (text : List ℕ) → Fits t b → Tells t answer b text → IsServed answer
+served (task.Run steps) answer b text fits (inl short) = let above = short.above in absurd (omega (arith, above, fits))
+served (task.Run steps) answer b text fits (inr runs) =
+    let r = runs.report in subst IsServed (sym r.answered) (ended_served r.last.core r.end r.last.core.phases r.run.ended)
+served (task.Source steps) answer b text fits r =
+    subst IsServed (sym r.answered) (ended_served r.last.core r.end r.last.core.phases r.run.ended)
+served task.Format answer b text fits tells = subst IsServed (sym tells.0) tt
+served task.Check answer b text fits tells = subst IsServed (sym tells.0) tt

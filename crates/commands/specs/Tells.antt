@@ -1,0 +1,58 @@
+-- What each task tells of a bundle, and with which status.
+use Rattle.std.specs.Prelude.{◌≡◌, ℕ, ◌<◌, ◌≤◌, ◌⊎◌, List, [], ◌∷◌, ◌++◌, decimal, codes}
+use Rattle.micro_isa.specs.declared.program.Bundle.{Bundle}
+use Rattle.semantics.specs.Agreement.{Implements}
+use Rattle.sliced_image.specs.Sliced.{sliced_need, sliced_image}
+use Rattle.asm_print.specs.Canonical.{asm_print}
+use Rattle.report_check.specs.Checks.{IsCheckOf}
+use Rattle.commands.specs.declared.status.Status.{Status}
+use Rattle.commands.specs.declared.status.Status.TheVariants as status
+use Rattle.commands.specs.declared.task.Task.{Task}
+use Rattle.commands.specs.declared.task.Task.TheVariants as task
+use Rattle.commands.specs.Reports.{IsReport, IsSourceReport}
+
+-- `nofit need N file F`
+abbrev pub no_fit_line : ℕ → ℕ → List ℕ
+no_fit_line need file = codes "nofit need " ++ decimal need ++ codes " file " ++ decimal file ++ 10 ∷ []
+
+-- the registers that a bundle needs are more than its file has, and the line tells both
+pub record DoesNotFit (answer : Status) (b : Bundle) (text : List ℕ) : Type 0 where
+  pub answered : answer ≡ status.NoFit
+  pub above : b.file < sliced_need b
+  pub told : text ≡ no_fit_line (sliced_need b) b.file
+
+-- the registers fit, the text is the report of the run of the bundle's image, and the image does what the bundle does, for
+-- every bound and every list of events
+pub record Runs (steps : ℕ) (answer : Status) (b : Bundle) (text : List ℕ) : Type 0 where
+  pub fits : sliced_need b ≤ b.file
+  pub same : Implements (sliced_image b) b
+  pub report : IsReport steps (sliced_image b) (sliced_need b) answer text
+
+abbrev pub RunTells : ℕ → Status → Bundle → List ℕ → Type 0
+RunTells steps answer b text = DoesNotFit answer b text ⊎ Runs steps answer b text
+
+-- what a task tells of a bundle
+abbrev pub Tells : Task → Status → Bundle → List ℕ → Type 0
+Tells (task.Run steps) answer b text = RunTells steps answer b text
+Tells (task.Source steps) answer b text = IsSourceReport steps b answer text
+Tells task.Format answer b text = (answer ≡ status.Done) × (text ≡ asm_print b)
+Tells task.Check answer b text = (answer ≡ status.Done) × IsCheckOf b text
+
+-- a run has this many steps at most
+abbrev pub IsBounded : Task → Type 0
+IsBounded (task.Run steps) = steps ≤ 1048576
+IsBounded (task.Source steps) = steps ≤ 1048576
+IsBounded _ = Unit {0}
+
+-- nothing in the bundle is a cause for which the task is refused
+abbrev pub Fits : Task → Bundle → Type 0
+Fits (task.Run steps) b = sliced_need b ≤ b.file
+Fits _ b = Unit {0}
+
+-- the statuses of what is not refused
+abbrev pub IsServed : Status → Type 0
+IsServed status.Done = Unit {0}
+IsServed status.Trapped = Unit {0}
+IsServed status.Stuck = Unit {0}
+IsServed status.Bound = Unit {0}
+IsServed _ = ⊥

@@ -1,0 +1,57 @@
+ghost use Rattle.std.specs.Prelude.{◌≡◌, IfOk};
+ghost use Rattle.micro_isa.specs.Formed.{IsFormedBundle};
+ghost use Rattle.asm_print.specs.Canonical.{asm_print};
+ghost use Rattle.report_check.specs.Checks.{IsCheckOf};
+ghost use Rattle.commands.specs.Tells.{IsBounded, Tells, Fits, IsServed};
+ghost use Rattle.commands.specs.declared.status.Status.TheVariants as status;
+
+use crate::images::run_bundle;
+use crate::sources::run_sources;
+use crate::status::Status;
+use crate::task::{Reply, Task};
+use asm_print::print_bundle;
+use micro_isa::{Bundle, NoMemory};
+use report_check::print_check;
+use std::alloc::Global;
+
+/// Does a task with a formed bundle.
+#[tactic(auto, using(crate::proofs::Telling::served))]
+pub fn perform(alloc: Global, task: Task, bundle: &Bundle) -> Result<Reply, NoMemory>
+    requires formed { IsFormedBundle bundle.now }
+    requires bounded { IsBounded task }
+    ensures tells { IfOk result (λ r. Tells task r.status bundle.now r.text.items) }
+    ensures served { IfOk result (λ r. Fits task bundle.now → IsServed r.status) }
+{
+    match task {
+        Task::Run { steps } => run_bundle(alloc, bundle, steps),
+        Task::Source { steps } => run_sources(alloc, bundle, steps),
+        Task::Format => format_bundle(alloc, bundle),
+        Task::Check => check_bundle(alloc, bundle),
+    }
+}
+
+fn format_bundle(alloc: Global, bundle: &Bundle) -> Result<Reply, NoMemory>
+    requires { IsFormedBundle bundle.now }
+    ensures { IfOk result (λ r. (r.status ≡ status.Done) × (r.text.items ≡ asm_print bundle.now)) }
+{
+    match print_bundle(alloc, bundle) {
+        Ok(text) => Ok(Reply {
+            status: Status::Done,
+            text,
+        }),
+        Err(NoMemory) => Err(NoMemory),
+    }
+}
+
+fn check_bundle(alloc: Global, bundle: &Bundle) -> Result<Reply, NoMemory>
+    requires { IsFormedBundle bundle.now }
+    ensures { IfOk result (λ r. (r.status ≡ status.Done) × IsCheckOf bundle.now r.text.items) }
+{
+    match print_check(alloc, bundle) {
+        Ok(text) => Ok(Reply {
+            status: Status::Done,
+            text,
+        }),
+        Err(NoMemory) => Err(NoMemory),
+    }
+}

@@ -1,8 +1,0 @@
-use Rattle.std.proofs.Common.{sym, ◌∙◌}
-use Rattle.header_text.specs.Views.{seen_header, seen_form}
-use Rattle.header_text.proofs.Sounding.{port_fits}
-use Rattle.header_text.proofs.reader.read_line.Goals as goal
-
-pub note-requires-clause-port : goal.note-requires-clause-port
-note-requires-clause-port c =
-    port_fits (seen_header c.args.header.now) c.fair.result (seen_form c.header_form-form.result) (sym c.form_fault.ensures ∙ c.in_default.is)

@@ -1,3 +1,0 @@
-pub mod Simulation
-pub mod Waiting
-pub mod Histories

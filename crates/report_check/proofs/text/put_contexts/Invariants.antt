@@ -1,0 +1,8 @@
+use Rattle.std.proofs.Common.{◌≡◌, ◌++◌}
+use Rattle.std.specs.Prelude.{slice_get}
+use Rattle.report_check.specs.Text.{in_order}
+use Rattle.report_check.specs.Checks.{context_lines}
+use Rattle.report_check.proofs.text.put_contexts.Given as goal
+
+abbrev pub invariant-loop-c : goal.invariant-loop-c
+invariant-loop-c l = l.text.items ≡ l.initial.text.items ++ in_order l.c (λ c. context_lines c (slice_get l.all c))

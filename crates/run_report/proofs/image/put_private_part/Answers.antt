@@ -1,6 +1,0 @@
-use Rattle.std.proofs.Common.{codes}
-use Rattle.run_report.proofs.Steps.{word_first}
-use Rattle.run_report.proofs.image.put_private_part.Goals as goal
-
-pub returns : goal.returns
-returns c = word_first c.put_private_sizes.result _ _ _ (codes "budget private") _ c.in_ok-put_bytes.ensures c.put_private_sizes.ensures

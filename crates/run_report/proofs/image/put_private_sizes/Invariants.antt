@@ -1,6 +1,0 @@
-use Rattle.std.proofs.Common.{◌≡◌, ◌++◌, take}
-use Rattle.run_report.specs.Report.{private_sizes}
-use Rattle.run_report.proofs.image.put_private_sizes.Given as goal
-
-abbrev pub invariant-loop-code : goal.invariant-loop-code
-invariant-loop-code l = l.text.items ≡ l.initial.text.items ++ private_sizes (take l.code-index l.code-items)

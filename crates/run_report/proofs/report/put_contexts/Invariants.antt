@@ -1,8 +1,0 @@
-use Rattle.std.proofs.Common.{◌≡◌, ◌++◌}
-use Rattle.std.specs.Prelude.{slice_get}
-use Rattle.run_report.specs.Text.{in_order}
-use Rattle.run_report.specs.Report.{context_line}
-use Rattle.run_report.proofs.report.put_contexts.Given as goal
-
-abbrev pub invariant-loop-c : goal.invariant-loop-c
-invariant-loop-c l = l.text.items ≡ l.initial.text.items ++ in_order l.c (λ c. context_line c (slice_get l.phases c))

@@ -1,8 +1,0 @@
-use Rattle.std.proofs.Common.{◌≡◌, ◌++◌}
-use Rattle.std.specs.Prelude.{slice_get}
-use Rattle.run_report.specs.Text.{in_order}
-use Rattle.run_report.specs.Report.{output_line}
-use Rattle.run_report.proofs.report.put_outputs.Given as goal
-
-abbrev pub invariant-loop-k : goal.invariant-loop-k
-invariant-loop-k l = l.text.items ≡ l.initial.text.items ++ in_order l.k (λ k. output_line l.outputs k (slice_get l.channels k))

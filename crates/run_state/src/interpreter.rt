@@ -1,0 +1,52 @@
+ghost use Rattle.std.specs.Prelude.{◌≡◌, ◌≤◌, None, length};
+ghost use Rattle.world.specs.WorldState.{is_plugged};
+ghost use Rattle.world.specs.declared.event.Event.TheVariants.{Run as RunOf, Unplug as UnplugOf};
+ghost use Rattle.world.specs.declared.event.Seen.TheVariants.{Ran as RanOf, Unplugged as UnpluggedOf};
+ghost use Rattle.semantics.specs.Core.{ending_of, illegal_of, is_runnable};
+ghost use Rattle.semantics.specs.Events.{Semantics, Config, fire};
+ghost use Rattle.run_state.specs.Segments.{GoesOn};
+
+use world::{End, Segment};
+
+/// A run that goes on segment by segment: of the sources, or of an image.
+pub trait Interpreter {
+    /// Its places and registers.
+    ghost State: { Type 0 };
+
+    /// What a stretch of a context does to them.
+    ghost rules: { Self → Semantics State };
+
+    /// The configuration of the run that it stands for.
+    ghost config: { Self → Config State };
+
+    /// The number of contexts.
+    fn contexts(&self) -> u32
+        ensures number { result ≡ length (config self.now).core.phases }
+        ensures small { result ≤ 8 };
+
+    /// Whether a context can go on; false where there is none of this number.
+    fn runnable(&self, context: u32) -> bool
+        ensures { result ≡ is_runnable (config self.now).core context };
+
+    /// How the run ended, if it did: cut by the bound, finished, or stuck.
+    fn ending(&self) -> Option<End>
+        ensures { result ≡ ending_of (config self.now).core };
+
+    /// One segment of a context that may run: the completion of what it waits for, and its
+    /// instructions up to the next stop.
+    fn segment(&mut self, context: u32) -> Segment
+        requires legal { illegal_of (config self.old).core (RunOf context) ≡ None }
+        ensures rules { rules self.new ≡ rules self.old }
+        ensures fire { fire (rules self.old) (config self.old) (RunOf context) ≡ (config self.new, RanOf result) }
+        ensures goes_on { GoesOn (config self.old).core (config self.new).core };
+
+    /// Whether the port of a channel is plugged; false where there is none of this number.
+    fn plugged(&self, channel: u8) -> bool
+        ensures { result ≡ is_plugged (config self.now).core.world channel };
+
+    /// Unplugs the port of a channel.
+    fn unplug(&mut self, channel: u8)
+        requires legal { illegal_of (config self.old).core (UnplugOf channel) ≡ None }
+        ensures rules { rules self.new ≡ rules self.old }
+        ensures fire { fire (rules self.old) (config self.old) (UnplugOf channel) ≡ (config self.new, UnpluggedOf) };
+}

@@ -1,0 +1,4 @@
+pub mod Simulation
+pub mod Stretching
+pub mod Waiting
+pub mod Histories
