@@ -49,5 +49,5 @@ numbered n [] = []
 numbered n (l ∷ ls) = line_of n l ∷ numbered (n + 1) ls
 
 -- all lines of a text
-abbrev pub asm_lines : List ℕ → List TextLine
-asm_lines text = numbered 1 (lines_from [] text)
+abbrev pub text_lines : List ℕ → List TextLine
+text_lines text = numbered 1 (lines_from [] text)

@@ -1,6 +1,6 @@
 ghost use Rattle.std.specs.Prelude.{◌≡◌, ◌+◌, ◌++◌, ◌<◌, ◌≤◌, [], ◌∷◌, map, length, IfOk, OnOk};
 ghost use Rattle.std.specs.List.{list_all};
-ghost use Rattle.asm_lines.specs.Cutting.{is_gap, is_allowed, told, words_from, piece, line_of, asm_lines};
+ghost use Rattle.asm_lines.specs.Cutting.{is_gap, is_allowed, told, words_from, piece, line_of, text_lines};
 
 use micro_isa::NoMemory;
 use smallvec::SmallVec;
@@ -128,7 +128,7 @@ fn push_row<'a>(alloc: Global, rows: &mut Vec<Row<'a>>, line: &'a [u8]) -> Resul
 /// The lines of a text.
 pub fn rows_of<'a>(alloc: Global, text: &'a [u8]) -> Result<Vec<Row<'a>>, NoMemory>
     requires { length text.now < 4294967295 }
-    ensures lines { IfOk result (λ rows. rows.items ≡ asm_lines text.now) }
+    ensures lines { IfOk result (λ rows. rows.items ≡ text_lines text.now) }
     ensures few { IfOk result (λ rows. length rows.items ≤ length text.now) }
 {
     let mut rows = Vec::new(alloc);

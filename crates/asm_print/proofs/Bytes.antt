@@ -4,7 +4,7 @@ use Rattle.std.proofs.lemmas.Bool.{and_parts, and_from}
 use Rattle.std.proofs.lemmas.Bool.Decides.{nat_tests}
 use Rattle.std.proofs.lemmas.List.Folds.{list_all-append}
 use Rattle.std.specs.List.{list_all}
-use Rattle.asm_lines.specs.Cutting.{Words, words_from, lines_from, told, is_gap, is_allowed, piece, line_of, numbered, asm_lines}
+use Rattle.asm_lines.specs.Cutting.{Words, words_from, lines_from, told, is_gap, is_allowed, piece, line_of, numbered, text_lines}
 use Rattle.asm_print.specs.Rows.{Row, Flush, Indented, led_by, spaced, operands_text, row_text, rows_text}
 use Rattle.asm_print.proofs.Plain.{is_plain, is_plain_word, row_words, is_plain_row, lines_with}
 
@@ -160,5 +160,5 @@ numbered_again n (row ∷ rows) e =
     ap (λ l. l ∷ numbered (n + 1) (map row_text rows)) (line_again n row a.0)
     ∙ ap (λ ls. record { number = n; fair = true; words = row_words row } ∷ ls) (numbered_again (n + 1) rows a.1)
 
-pub rows_again : (rows : List Row) → list_all is_plain_row rows ≡ true → asm_lines (rows_text rows) ≡ lines_with 1 rows
+pub rows_again : (rows : List Row) → list_all is_plain_row rows ≡ true → text_lines (rows_text rows) ≡ lines_with 1 rows
 rows_again rows e = ap (numbered 1) (lines_again rows e) ∙ numbered_again 1 rows e

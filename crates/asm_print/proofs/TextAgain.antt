@@ -21,7 +21,7 @@ use Rattle.micro_isa.specs.declared.program.Bundle.{Bundle}
 use Rattle.micro_isa.specs.Names.{name_test}
 use Rattle.micro_isa.specs.Formed.{Each, IsFormedProgram, IsFormedBundle, fits_channels, is_distinct, initial_count}
 use Rattle.asm_lines.specs.declared.fault.BundleKind.TheVariants as kind
-use Rattle.asm_lines.specs.Cutting.{Words, TextLine, asm_lines}
+use Rattle.asm_lines.specs.Cutting.{Words, TextLine, text_lines}
 use Rattle.asm_lines.specs.Faults.{at_or, or_else}
 use Rattle.asm_lines.specs.Tables.{knows}
 use Rattle.asm_header.specs.Headers.{Header, header_of, setting_of}
@@ -32,7 +32,7 @@ use Rattle.asm_context.specs.Said.{line_body}
 use Rattle.asm_text.specs.Contexts.{starts, ahead, has_instruction, start_tests, start_fault, context_fault, names_with, contexts_fault, program_at, programs}
 use Rattle.asm_text.specs.Texts.{header_in, end_fault, lines_fault, text_fault, bundle_said}
 use Rattle.asm_print.specs.Rows.{Row}
-use Rattle.asm_print.specs.Canonical.{labels_at, label_row, instruction_row, line_rows, code_rows, context_rows, words_rows, channel_rows, channels_rows, header_rows, canonical_rows, asm_print}
+use Rattle.asm_print.specs.Canonical.{labels_at, label_row, instruction_row, line_rows, code_rows, context_rows, words_rows, channel_rows, channels_rows, header_rows, canonical_rows, canonical_text}
 use Rattle.asm_print.proofs.Plain.{row_words, lines_with}
 use Rattle.asm_print.specs.Typed.{IsTypedProgram, IsTyped}
 use Rattle.asm_print.specs.Again.{unlined, unlined_program, SpellsAgain}
@@ -259,11 +259,11 @@ begun n chs [] h = absurd (omega arith)
 begun n chs (p ∷ ps) h = refl
 
 record SaidAgain (b : Bundle) : Type 0 where
-  free : text_fault (asm_print b) ≡ None
-  same : unlined (bundle_said (asm_lines (asm_print b))) ≡ unlined b
+  free : text_fault (canonical_text b) ≡ None
+  same : unlined (bundle_said (text_lines (canonical_text b))) ≡ unlined b
 
 said_whole : (b : Bundle) → IsFormedBundle b → IsTyped b → SaidAgain b
-unfolding asm_print
+unfolding canonical_text
 said_whole b f t =
     let channelled : Channelled b.names b.setting.channels = record { same = f.names; named = t.names; distinct = f.distinct } in
     let good = goods b.names b.setting.channels b.programs channelled f.programs t.programs f.channels in
@@ -271,7 +271,7 @@ said_whole b f t =
     let head = lines_with 1 (header_rows b) in
     let n = 1 + length (header_rows b) in
     let tail = lines_with n (flat_map (context_rows b.names) b.programs) in
-    let lines : asm_lines (asm_print b) ≡ head ++ tail = rows_again (canonical_rows b) (all_rows_plain b f t good) ∙ lines-append 1 (header_rows b) (flat_map (context_rows b.names) b.programs) in
+    let lines : text_lines (canonical_text b) ≡ head ++ tail = rows_again (canonical_rows b) (all_rows_plain b f t good) ∙ lines-append 1 (header_rows b) (flat_map (context_rows b.names) b.programs) in
     let leads = header_leads b f t in
     let stays : stay head ≡ true = stay_rows 1 (header_rows b) (header_stays b) in
     let front : ahead (head ++ tail) ≡ head = ahead_all head tail stays (contexts_turn n b.names b.programs) in
@@ -294,5 +294,5 @@ said_whole b f t =
           ∙ ap (λ ps. record { file = b.file; setting = b.setting; names = b.names; programs = ps }) told.same;
     }
 
-pub spells_again : (b : Bundle) → IsFormedBundle b → IsTyped b → SpellsAgain (asm_print b) b
-spells_again b f t = let s = said_whole b f t in record { spelled = bundle_said (asm_lines (asm_print b)); spells = record { free = s.free; said = refl }; same = s.same }
+pub spells_again : (b : Bundle) → IsFormedBundle b → IsTyped b → SpellsAgain (canonical_text b) b
+spells_again b f t = let s = said_whole b f t in record { spelled = bundle_said (text_lines (canonical_text b)); spells = record { free = s.free; said = refl }; same = s.same }

@@ -127,5 +127,5 @@ header_rows b =
 abbrev pub canonical_rows : Bundle → List Row
 canonical_rows b = header_rows b ++ flat_map (context_rows b.names) b.programs
 
-unfoldable pub asm_print : Bundle → List ℕ
-asm_print b = rows_text (canonical_rows b)
+unfoldable pub canonical_text : Bundle → List ℕ
+canonical_text b = rows_text (canonical_rows b)

@@ -3,7 +3,7 @@ ghost use Rattle.std.specs.List.{flat_map};
 ghost use Rattle.micro_isa.specs.Formed.{Each, IsFormedProgram, IsFormedBundle};
 ghost use Rattle.asm_print.specs.Again.{SpellsAgain};
 ghost use Rattle.asm_print.specs.Rows.{rows_text};
-ghost use Rattle.asm_print.specs.Canonical.{context_rows, canonical_rows, asm_print};
+ghost use Rattle.asm_print.specs.Canonical.{context_rows, canonical_rows, canonical_text};
 
 use crate::context::put_context;
 use crate::header::put_header;
@@ -12,10 +12,10 @@ use micro_isa::{Bundle, List, Name, NoMemory, Program};
 use std::alloc::Global;
 
 /// The canonical text of a bundle. It spells this bundle again, but for the lines of instructions.
-#[tactic(auto, unfolding(crate::specs::Canonical::asm_print))]
+#[tactic(auto, unfolding(crate::specs::Canonical::canonical_text))]
 pub fn print_bundle(alloc: Global, bundle: &Bundle) -> Result<Vec<u8>, NoMemory>
     requires { IsFormedBundle bundle.now }
-    ensures text { IfOk result (λ text. text.items ≡ asm_print bundle.now) }
+    ensures text { IfOk result (λ text. text.items ≡ canonical_text bundle.now) }
     ensures again { IfOk result (λ text. SpellsAgain text.items bundle.now) }
 {
     typed_bundle(bundle);

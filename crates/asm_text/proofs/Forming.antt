@@ -10,7 +10,7 @@ use Rattle.micro_isa.specs.declared.program.Program.{Program}
 use Rattle.micro_isa.specs.Formed.{Each, always_rises, is_distinct, fits_channels, IsFormedProgram, IsFormedBundle}
 use Rattle.asm_lines.specs.declared.fault.BundleKind.TheVariants.{Missing}
 use Rattle.micro_isa.specs.declared.program.Bundle.{Bundle}
-use Rattle.asm_lines.specs.Cutting.{Words, TextLine, numbered, lines_from, asm_lines}
+use Rattle.asm_lines.specs.Cutting.{Words, TextLine, numbered, lines_from, text_lines}
 use Rattle.asm_lines.specs.Faults.{At, or_else}
 use Rattle.asm_lines.specs.Limits.{most_contexts, largest_file, largest_memory}
 use Rattle.asm_lines.specs.Tables.{knows, declare, one}
@@ -193,4 +193,4 @@ numbered_rises n (l ∷ ls) = and_from (nat_le n n) (always_rises (n + 1) (map (
 
 -- what a text spells is formed
 pub spelled_formed : (text : List ℕ) (b : Bundle) → Spells text b → IsFormedBundle b
-spelled_formed text b s = subst IsFormedBundle (sym s.said) (lines_formed (asm_lines text) (numbered_rises 1 (lines_from [] text)) s.free)
+spelled_formed text b s = subst IsFormedBundle (sym s.said) (lines_formed (text_lines text) (numbered_rises 1 (lines_from [] text)) s.free)

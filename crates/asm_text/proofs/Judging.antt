@@ -7,7 +7,7 @@ use Rattle.asm_lines.specs.declared.fault.BundleKind.{BundleKind}
 use Rattle.asm_lines.specs.declared.fault.BundleKind.TheVariants as kind
 use Rattle.asm_lines.specs.declared.fault.BundleFault.{BundleFault}
 use Rattle.asm_lines.specs.declared.fault.BundleFault.TheVariants as fault
-use Rattle.asm_lines.specs.Cutting.{Words, TextLine, numbered, lines_from, asm_lines}
+use Rattle.asm_lines.specs.Cutting.{Words, TextLine, numbered, lines_from, text_lines}
 use Rattle.asm_lines.specs.Faults.{At, at_or, or_else, Causes}
 use Rattle.asm_header.specs.Headers as header
 use Rattle.asm_header.specs.Headers.{Header, no_header}
@@ -129,9 +129,9 @@ range_snoc : (a n k : ℕ) → k ≡ a + n → range_with_len a n ++ k ∷ [] �
 range_snoc a zero k e = ap (λ x. x ∷ []) (omega arith)
 range_snoc a (suc n) k e = ap (λ l. a ∷ l) (range_snoc (a + 1) n k (omega arith))
 
-text_places : (text : List ℕ) → places (verdicts (asm_lines text)) ≡ range_with_len 1 (length (asm_lines text) + 1)
+text_places : (text : List ℕ) → places (verdicts (text_lines text)) ≡ range_with_len 1 (length (text_lines text) + 1)
 text_places text =
-    let lines = asm_lines text in
+    let lines = text_lines text in
     let more : suc (length lines) ≡ length lines + 1 = omega arith in
     verdict_places lines
     ∙ ap (λ ns. ns ++ (length lines + 1) ∷ []) (numbered_range 1 (lines_from [] text))
@@ -170,6 +170,6 @@ cut (v ∷ vs) at e =
 
 pub tells : (why : BundleFault) (text : List ℕ) → Causes why (text_fault text) → Tells why text
 tells (fault.At line k) text e =
-    let c = cut (verdicts (asm_lines text)) (record { line = line; kind = k }) (told (asm_lines text) ∙ e) in
+    let c = cut (verdicts (text_lines text)) (record { line = line; kind = k }) (told (text_lines text) ∙ e) in
     record { before = c.before; behind = c.behind; parts = c.parts; free = c.free; lines = text_places text }
 tells fault.NoMemory text e = tt

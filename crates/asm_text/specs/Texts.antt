@@ -5,7 +5,7 @@ use Rattle.micro_isa.specs.declared.program.Bundle.{Bundle}
 use Rattle.asm_lines.specs.declared.fault.BundleKind.TheVariants as kind
 use Rattle.asm_lines.specs.declared.fault.BundleFault.{BundleFault}
 use Rattle.asm_lines.specs.declared.fault.BundleFault.TheVariants as fault
-use Rattle.asm_lines.specs.Cutting.{TextLine, asm_lines}
+use Rattle.asm_lines.specs.Cutting.{TextLine, text_lines}
 use Rattle.asm_lines.specs.Faults.{At, or_else}
 use Rattle.asm_header.specs.Headers.{Header, header_of, setting_of}
 use Rattle.asm_header.specs.Faults.{header_fault}
@@ -28,7 +28,7 @@ lines_fault lines =
 
 -- the first fault of a text
 abbrev pub text_fault : List ℕ → Option At
-text_fault text = lines_fault (asm_lines text)
+text_fault text = lines_fault (text_lines text)
 
 -- what the lines say: the size of the file, memory, channels with their names and words, and a program a context
 abbrev pub bundle_said : List TextLine → Bundle
@@ -42,7 +42,7 @@ bundle_said lines = record {
 -- the text has no fault, and its lines say the bundle
 pub record Spells (text : List ℕ) (b : Bundle) : Type 0 where
   pub free : text_fault text ≡ None
-  pub said : b ≡ bundle_said (asm_lines text)
+  pub said : b ≡ bundle_said (text_lines text)
 
 -- the text spells no other bundle
 abbrev pub SpellsAlone : List ℕ → Bundle → Type 0

@@ -5,7 +5,7 @@ use Rattle.asm_lines.specs.declared.fault.BundleKind.{BundleKind}
 use Rattle.asm_lines.specs.declared.fault.BundleKind.TheVariants as kind
 use Rattle.asm_lines.specs.declared.fault.BundleFault.{BundleFault}
 use Rattle.asm_lines.specs.declared.fault.BundleFault.TheVariants as fault
-use Rattle.asm_lines.specs.Cutting.{Words, TextLine, asm_lines}
+use Rattle.asm_lines.specs.Cutting.{Words, TextLine, text_lines}
 use Rattle.asm_header.specs.Headers as header
 use Rattle.asm_header.specs.Headers.{Header, no_header}
 use Rattle.asm_header.specs.Faults as header_faults
@@ -51,10 +51,10 @@ verdicts lines =
 pub record IsFirstFault (text : List ℕ) (line : ℕ) (k : BundleKind) : Type 0 where
   pub before : List Verdict
   pub behind : List Verdict
-  pub parts : verdicts (asm_lines text) ≡ before ++ (line, Some k) ∷ behind
+  pub parts : verdicts (text_lines text) ≡ before ++ (line, Some k) ∷ behind
   pub free : list_all (λ v. is_none v.1) before ≡ true
   -- there is a verdict on each line, in their order
-  pub lines : map (λ v. v.0) (verdicts (asm_lines text)) ≡ range_with_len 1 (length (asm_lines text) + 1)
+  pub lines : map (λ v. v.0) (verdicts (text_lines text)) ≡ range_with_len 1 (length (text_lines text) + 1)
 
 -- what an answer without a bundle tells of a text
 abbrev pub Tells : BundleFault → List ℕ → Type 0

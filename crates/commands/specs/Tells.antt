@@ -3,7 +3,7 @@ use Rattle.std.specs.Prelude.{◌≡◌, ℕ, ◌<◌, ◌≤◌, ◌⊎◌, Lis
 use Rattle.micro_isa.specs.declared.program.Bundle.{Bundle}
 use Rattle.semantics.specs.Agreement.{Implements}
 use Rattle.sliced_image.specs.Sliced.{sliced_need, sliced_image}
-use Rattle.asm_print.specs.Canonical.{asm_print}
+use Rattle.asm_print.specs.Canonical.{canonical_text}
 use Rattle.report_check.specs.Checks.{IsCheckOf}
 use Rattle.commands.specs.declared.status.Status.{Status}
 use Rattle.commands.specs.declared.status.Status.TheVariants as status
@@ -35,7 +35,7 @@ RunTells steps answer b text = DoesNotFit answer b text ⊎ Runs steps answer b 
 abbrev pub Tells : Task → Status → Bundle → List ℕ → Type 0
 Tells (task.Run steps) answer b text = RunTells steps answer b text
 Tells (task.Source steps) answer b text = IsSourceReport steps b answer text
-Tells task.Format answer b text = (answer ≡ status.Done) × (text ≡ asm_print b)
+Tells task.Format answer b text = (answer ≡ status.Done) × (text ≡ canonical_text b)
 Tells task.Check answer b text = (answer ≡ status.Done) × IsCheckOf b text
 
 -- a run has this many steps at most

@@ -1,6 +1,6 @@
 ghost use Rattle.std.specs.Prelude.{◌≡◌, IfOk};
 ghost use Rattle.micro_isa.specs.Formed.{IsFormedBundle};
-ghost use Rattle.asm_print.specs.Canonical.{asm_print};
+ghost use Rattle.asm_print.specs.Canonical.{canonical_text};
 ghost use Rattle.report_check.specs.Checks.{IsCheckOf};
 ghost use Rattle.commands.specs.Tells.{IsBounded, Tells, Fits, IsServed};
 ghost use Rattle.commands.specs.declared.status.Status.TheVariants as status;
@@ -32,7 +32,7 @@ pub fn perform(alloc: Global, task: Task, bundle: &Bundle) -> Result<Reply, NoMe
 
 fn format_bundle(alloc: Global, bundle: &Bundle) -> Result<Reply, NoMemory>
     requires { IsFormedBundle bundle.now }
-    ensures { IfOk result (λ r. (r.status ≡ status.Done) × (r.text.items ≡ asm_print bundle.now)) }
+    ensures { IfOk result (λ r. (r.status ≡ status.Done) × (r.text.items ≡ canonical_text bundle.now)) }
 {
     match print_bundle(alloc, bundle) {
         Ok(text) => Ok(Reply {
