@@ -88,7 +88,7 @@ fn is_apart_from_all(range: &Range, contexts: &[Code]) -> bool
     contexts.iter().all(|code| are_apart(range, &code.private))
 }
 
-fn are_apart(a: &Range, b: &Range) -> bool
+pub fn are_apart(a: &Range, b: &Range) -> bool
     ensures { result ≡ are_apart a.now b.now }
 {
     a.size == 0 || b.size == 0 || end(a) <= u64::from(b.start) || end(b) <= u64::from(a.start)
@@ -124,7 +124,7 @@ fn word_passes(image: &Image, code: &Code, word: &Word) -> bool
         && fits_channels(image.setting.channels.as_slice(), &word.instr)
 }
 
-fn writes_within(own: &Range, shared: &Range, written: Option<PReg>) -> bool
+pub fn writes_within(own: &Range, shared: &Range, written: Option<PReg>) -> bool
     ensures { result ≡ writes_within own.now shared.now written }
 {
     match written {
@@ -145,7 +145,7 @@ fn glue_fits(words: &[Word], word: &Word) -> bool
     word.counted || (is_glue(&word.instr) && goes_to_counted(words, &word.instr))
 }
 
-fn is_glue(instr: &Instr<PReg>) -> bool
+pub fn is_glue(instr: &Instr<PReg>) -> bool
     ensures { result ≡ is_glue instr.now }
 {
     matches!(
@@ -154,7 +154,7 @@ fn is_glue(instr: &Instr<PReg>) -> bool
     )
 }
 
-fn goes_to_counted(words: &[Word], instr: &Instr<PReg>) -> bool
+pub fn goes_to_counted(words: &[Word], instr: &Instr<PReg>) -> bool
     ensures { result ≡ goes_to_counted words.now instr.now }
 {
     match instr {

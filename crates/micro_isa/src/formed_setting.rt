@@ -56,7 +56,7 @@ fn has_formed_ring(channel: &Channel) -> bool
     }
 }
 
-fn is_ring_size(capacity: u32) -> bool
+pub fn is_ring_size(capacity: u32) -> bool
     ensures { result ≡ is_ring_size capacity }
 {
     1 <= capacity && capacity <= 1024
@@ -106,7 +106,7 @@ fn have_port(channels: &[Channel], port: Option<u8>) -> bool
     }
 }
 
-fn uses_port(channels: &[Channel], port: u8) -> bool
+pub fn uses_port(channels: &[Channel], port: u8) -> bool
     ensures { result ≡ list_any (nat_eq port) (filter_map port_of channels.now) }
 {
     channels
@@ -129,7 +129,7 @@ fn have_few_words(channels: &[Channel]) -> bool
     true
 }
 
-fn initial_count(channel: &Channel) -> usize
+pub fn initial_count(channel: &Channel) -> usize
     ensures { result ≡ initial_count channel.now }
 {
     match channel {
@@ -139,7 +139,7 @@ fn initial_count(channel: &Channel) -> usize
 }
 
 /// Whether the channel that an instruction names, if any, is there and of the right kind.
-pub(crate) fn fits_channels<R>(channels: &[Channel], instr: &Instr<R>) -> bool
+pub fn fits_channels<R>(channels: &[Channel], instr: &Instr<R>) -> bool
     ensures { result ≡ fits_channels channels.now instr.now }
 {
     match instr {

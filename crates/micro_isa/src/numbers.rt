@@ -69,6 +69,20 @@ pub(crate) fn names_below<R: Register>(instr: &Instr<R>, registers: usize, place
     are_below(&numbers_in(instr), registers) && is_target_below(target(instr), places)
 }
 
+/// Whether the registers that an instruction names are below the size of the file.
+pub fn has_registers_below(instr: &Instr<PReg>, file: usize) -> bool
+    ensures { result ≡ all_below file (map (λ r. r.0) (registers_in instr.now)) }
+{
+    are_below(&numbers_in(instr), file)
+}
+
+/// Whether the target of an instruction, if any, is below the number of words.
+pub fn has_target_below(instr: &Instr<PReg>, places: usize) -> bool
+    ensures { result ≡ option_below places (target_of instr.now) }
+{
+    is_target_below(target(instr), places)
+}
+
 fn are_below(numbers: &Numbers, bound: usize) -> bool
     ensures { result ≡ all_below bound (listed numbers.now) }
 {
@@ -106,7 +120,7 @@ pub(crate) fn target<R>(instr: &Instr<R>) -> Option<u32>
 }
 
 /// Whether what stands behind an instruction is never reached in order.
-pub(crate) fn never_falls<R>(instr: &Instr<R>) -> bool
+pub fn never_falls<R>(instr: &Instr<R>) -> bool
     ensures { result ≡ never_falls instr.now }
 {
     matches!(instr, Instr::Jmp { .. } | Instr::Halt)
