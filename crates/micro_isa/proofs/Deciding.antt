@@ -8,6 +8,7 @@ use Rattle.std.specs.Str.{bytes_eq}
 use Rattle.std.proofs.lemmas.Bool.{leb-true, le-leb, and_parts, and_from}
 use Rattle.std.proofs.lemmas.Bool.Decides.{Decides-and, Decides-eqb}
 use Rattle.std.proofs.lemmas.Option.{same_Some}
+use Rattle.micro_isa.specs.declared.limits.TheConstants.{MOST_CONTEXTS, MOST_REGISTERS, MOST_FILE, MOST_INSTRUCTIONS, MOST_WORDS, MOST_MEMORY, MOST_CHANNELS, MOST_PORTS, MOST_INITIAL_WORDS}
 use Rattle.micro_isa.specs.declared.instr.Instr.{Instr}
 use Rattle.micro_isa.specs.declared.program.Line.{Line}
 use Rattle.micro_isa.specs.declared.program.Label.{Label}
@@ -19,7 +20,8 @@ use Rattle.micro_isa.specs.declared.image.Range.{Range}
 use Rattle.micro_isa.specs.declared.image.Code.{Code}
 use Rattle.micro_isa.specs.declared.image.Image.{Image}
 use Rattle.micro_isa.specs.Columns.{written_by}
-use Rattle.micro_isa.specs.Formed.{Each, names_below, named_by, is_distinct, all_below, never_drops, always_rises, never_falls, last_never_falls, is_labelled, target_of, fits_channels, has_formed_ring, port_of, initial_count, are_apart, all_apart, glue_fits, writes_within, IsFormedProgram, IsFormedSetting, IsFormedBundle, IsFormedCode, IsFormedImage}
+use Rattle.micro_isa.specs.Formed.{Each, names_below, named_by, is_distinct, all_below, never_drops, always_rises, last_never_falls, is_labelled, fits_channels, has_formed_ring, port_of, initial_count, are_apart, all_apart, glue_fits, writes_within, IsFormedProgram, IsFormedSetting, IsFormedBundle, IsFormedCode, IsFormedImage}
+use Rattle.micro_isa.specs.Columns.{never_falls, target_of}
 use Rattle.micro_isa.specs.FormedTests.{size_test, program_test, setting_test, bundle_test, word_test, code_test, codes_apart, image_test}
 use Rattle.micro_isa.proofs.Mapped.{Decides-each, all_mapped, any_mapped}
 use Rattle.micro_isa.proofs.Appearing.{Decides-numbered}
@@ -68,9 +70,9 @@ targets_below places labels =
     let same = all_mapped (λ target. nat_lt target places) (λ (l : Label). l.target) labels in
     (λ h. sym same ∙ h, λ h. same ∙ h)
 
-sizes : (p : Program) → Decides (size_test p) ((1 ≤ length p.code) × (length p.code ≤ 2048) × (length p.registers ≤ 128))
+sizes : (p : Program) → Decides (size_test p) ((1 ≤ length p.code) × (length p.code ≤ MOST_INSTRUCTIONS) × (length p.registers ≤ MOST_REGISTERS))
 sizes p =
-    let all = Decides-and _ _ (Decides-and _ _ (at_most 1 (length p.code)) (at_most (length p.code) 2048)) (at_most (length p.registers) 128) in
+    let all = Decides-and _ _ (Decides-and _ _ (at_most 1 (length p.code)) (at_most (length p.code) MOST_INSTRUCTIONS)) (at_most (length p.registers) MOST_REGISTERS) in
     (λ h. ((all.0 h).0.0, (all.0 h).0.1, (all.0 h).1), λ f. all.1 ((f.0, f.1), f.2))
 
 pub Decides-program : (p : Program) → Decides (program_test p) (IsFormedProgram p)
@@ -104,8 +106,8 @@ Decides-program p =
 
 pub Decides-setting : (s : Setting) → Decides (setting_test s) (IsFormedSetting s)
 Decides-setting s =
-    let sizes = Decides-and _ _ (Decides-and _ _ (at_most s.memory 65536) (at_most (length s.channels) 16)) (at_most (sum (map initial_count s.channels)) 65536) in
-    let channels = Decides-and _ _ (Decides-and _ _ (passes (list_all has_formed_ring s.channels)) (passes (all_below 16 (filter_map port_of s.channels)))) (passes (is_distinct nat_eq (filter_map port_of s.channels))) in
+    let sizes = Decides-and _ _ (Decides-and _ _ (at_most s.memory MOST_MEMORY) (at_most (length s.channels) MOST_CHANNELS)) (at_most (sum (map initial_count s.channels)) MOST_INITIAL_WORDS) in
+    let channels = Decides-and _ _ (Decides-and _ _ (passes (list_all has_formed_ring s.channels)) (passes (all_below MOST_PORTS (filter_map port_of s.channels)))) (passes (is_distinct nat_eq (filter_map port_of s.channels))) in
     let all = Decides-and _ _ sizes channels in (
       λ h.
           let f = all.0 h in
@@ -117,7 +119,7 @@ Decides-setting s =
 
 pub Decides-bundle : (b : Bundle) → Decides (bundle_test b) (IsFormedBundle b)
 Decides-bundle b =
-    let sizes = Decides-and _ _ (Decides-and _ _ (Decides-and _ _ (at_most 1 b.file) (at_most b.file 128)) (at_most 1 (length b.programs))) (at_most (length b.programs) 8) in
+    let sizes = Decides-and _ _ (Decides-and _ _ (Decides-and _ _ (at_most 1 b.file) (at_most b.file MOST_FILE)) (at_most 1 (length b.programs))) (at_most (length b.programs) MOST_CONTEXTS) in
     let names = Decides-and _ _ (Decides-and _ _ (Decides-eqb (length b.names) (length b.setting.channels)) (passes (is_distinct bytes_eq b.names))) (has_names (λ (p : Program). p.name) b.programs) in
     let programs = Decides-each program_test IsFormedProgram Decides-program b.programs in
     let fits = λ (p : Program). list_all (λ (l : Line). fits_channels b.setting.channels l.instr) p.code in
@@ -157,7 +159,7 @@ decides_word m code w =
 
 decides_code : (m : Image) (code : Code) → Decides (code_test m code) (IsFormedCode m code)
 decides_code m code =
-    let size = Decides-and _ _ (Decides-and _ _ (at_most 1 (length code.words)) (at_most (length code.words) 1564672)) (at_most (code.private.start + code.private.size) m.file) in
+    let size = Decides-and _ _ (Decides-and _ _ (at_most 1 (length code.words)) (at_most (length code.words) MOST_WORDS)) (at_most (code.private.start + code.private.size) m.file) in
     let words = Decides-each (word_test m code) (Worded m code) (decides_word m code) code.words in
     let all = Decides-and _ _ (Decides-and _ _ size words) (passes (last_never_falls (option_map (λ w. w.instr) (slice_get code.words (length code.words - 1))))) in (
       λ h.
@@ -193,7 +195,7 @@ apart codes = (λ h. sym (ranges_apart codes) ∙ h, λ h. ranges_apart codes �
 
 pub Decides-image : (m : Image) → Decides (image_test m) (IsFormedImage m)
 Decides-image m =
-    let sizes = Decides-and _ _ (Decides-and _ _ (Decides-and _ _ (at_most 1 m.file) (at_most m.file 128)) (at_most 1 (length m.contexts))) (at_most (length m.contexts) 8) in
+    let sizes = Decides-and _ _ (Decides-and _ _ (Decides-and _ _ (at_most 1 m.file) (at_most m.file MOST_FILE)) (at_most 1 (length m.contexts))) (at_most (length m.contexts) MOST_CONTEXTS) in
     let ranges = Decides-and _ _ (Decides-and _ _ (at_most (m.shared.start + m.shared.size) m.file) (apart_from m.shared m.contexts)) (apart m.contexts) in
     let contexts = Decides-each (code_test m) (IsFormedCode m) (decides_code m) m.contexts in
     let all = Decides-and _ _ (Decides-and _ _ (Decides-and _ _ sizes ranges) (Decides-setting m.setting)) contexts in (

@@ -1,3 +1,4 @@
-mod Mapped
+pub mod Mapped
 mod Appearing
 mod Deciding
+pub mod Laws

@@ -1,44 +1,64 @@
 -- The columns of the instruction table, over registers of any kind.
-use Rattle.std.specs.Prelude.{ℕ, ◌+◌, Bool, true, false, Option, Some, None}
+use Rattle.std.specs.Prelude.{ℕ, ◌+◌, Bool, true, false, List, [], Option, Some, None}
+use Rattle.std.specs.List.{cons_option}
 use Rattle.micro_isa.specs.declared.instr.Instr.{Instr}
-use Rattle.micro_isa.specs.declared.instr.Instr.TheVariants.{Li, Mov, Alu, Div, Ctx, Jmp, Branch, Load, Store, Yield, Recv, Send, Halt}
+use Rattle.micro_isa.specs.declared.instr.Instr.TheVariants as instr
 use Rattle.micro_isa.specs.declared.instr.Reads.{Reads}
 use Rattle.micro_isa.specs.declared.instr.Next.{Next}
+use Rattle.micro_isa.specs.declared.operation.Operation.{Operation}
+use Rattle.micro_isa.specs.declared.operation.Operation.TheVariants.{Jmp, Load, Store, Yield, Recv, Send, Halt}
+use Rattle.micro_isa.specs.declared.operands.Extra.{Extra}
+use Rattle.micro_isa.specs.declared.operands.Extra.TheVariants.{Target}
+use Rattle.micro_isa.specs.declared.operands.Operands.{Operands}
+use Rattle.micro_isa.specs.Operands.{operation_of, operands_of}
 
 -- the registers read, in the order of the text
 abbrev pub reads_in : {R : Type 0} → Instr R → Reads R
-reads_in (Mov to from) = record { first = Some from; second = None }
-reads_in (Alu op to a b) = record { first = Some a; second = Some b }
-reads_in (Div op to a b) = record { first = Some a; second = Some b }
-reads_in (Branch test a b target) = record { first = Some a; second = Some b }
-reads_in (Load to address) = record { first = Some address; second = None }
-reads_in (Store address from) = record { first = Some address; second = Some from }
-reads_in (Send channel from) = record { first = Some from; second = None }
-reads_in _ = record { first = None; second = None }
+reads_in i = record { first = (operands_of i).a; second = (operands_of i).b }
 
 -- the register written
 abbrev pub written_by : {R : Type 0} → Instr R → Option R
-written_by (Li to n) = Some to
-written_by (Mov to from) = Some to
-written_by (Alu op to a b) = Some to
-written_by (Div op to a b) = Some to
-written_by (Ctx to) = Some to
-written_by (Load to address) = Some to
-written_by (Recv to channel) = Some to
-written_by _ = None
+written_by i = (operands_of i).to
+
+-- the registers, in the order of the text
+abbrev pub registers : {R N K : Type 0} → Operands R N K → List R
+registers x = cons_option x.to (cons_option x.a (cons_option x.b []))
+
+abbrev pub registers_in : {R : Type 0} → Instr R → List R
+registers_in i = registers (operands_of i)
+
+abbrev pub target_in : {N K : Type 0} → Extra N K → Option N
+target_in (Target target) = Some target
+target_in _ = None
+
+-- where an instruction may jump
+abbrev pub target_of : {R : Type 0} → Instr R → Option ℕ
+target_of i = target_in (operands_of i).extra
+
+-- what stands after it is not reached in order
+abbrev pub ends : Operation → Bool
+ends Jmp = true
+ends Halt = true
+ends _ = false
+
+abbrev pub never_falls : {R : Type 0} → Instr R → Bool
+never_falls i = ends (operation_of i)
+
+abbrev pub switching : Operation → Bool
+switching Load = true
+switching Store = true
+switching Yield = true
+switching Recv = true
+switching Send = true
+switching _ = false
 
 -- whether another context may run after it
 abbrev pub switches_at : {R : Type 0} → Instr R → Bool
-switches_at (Load to address) = true
-switches_at (Store address from) = true
-switches_at Yield = true
-switches_at (Recv to channel) = true
-switches_at (Send channel from) = true
-switches_at _ = false
+switches_at i = switching (operation_of i)
 
 -- what may follow the instruction at this place
 abbrev pub next_of : {R : Type 0} → Instr R → ℕ → Next
-next_of Halt at = record { fall = None; jump = None }
-next_of (Jmp target) at = record { fall = None; jump = Some target }
-next_of (Branch test a b target) at = record { fall = Some (at + 1); jump = Some target }
+next_of instr.Halt at = record { fall = None; jump = None }
+next_of (instr.Jmp target) at = record { fall = None; jump = Some target }
+next_of (instr.Branch test a b target) at = record { fall = Some (at + 1); jump = Some target }
 next_of _ at = record { fall = Some (at + 1); jump = None }

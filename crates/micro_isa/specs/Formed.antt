@@ -2,9 +2,10 @@
 use Rattle.std.specs.Prelude.{◌≡◌, ℕ, ◌+◌, ◌-◌, ◌≤◌, List, [], ◌∷◌, ◌++◌, length, map, sum, Bool, true, false, ◌||◌, ◌&&◌, not, nat_lt, nat_le, nat_eq, ◌==◌, if◌then◌else◌, Option, Some, None, slice_get}
 use Rattle.std.specs.List.{list_any, list_all, range_with_len, flat_map, filter_map}
 use Rattle.std.specs.Str.{bytes_eq}
+use Rattle.micro_isa.specs.declared.limits.TheConstants.{MOST_CONTEXTS, MOST_REGISTERS, MOST_FILE, MOST_INSTRUCTIONS, MOST_WORDS, MOST_MEMORY, MOST_CHANNELS, MOST_PORTS, MOST_RING, MOST_INITIAL_WORDS}
 use Rattle.micro_isa.specs.declared.arithmetic.AluOp.TheVariants as op
 use Rattle.micro_isa.specs.declared.instr.Instr.{Instr}
-use Rattle.micro_isa.specs.declared.instr.Instr.TheVariants.{Li, Mov, Alu, Div, Ctx, Jmp, Branch, Load, Store, Recv, Send, Halt}
+use Rattle.micro_isa.specs.declared.instr.Instr.TheVariants.{Mov, Alu, Jmp}
 use Rattle.micro_isa.specs.declared.program.Line.{Line}
 use Rattle.micro_isa.specs.declared.program.Label.{Label}
 use Rattle.micro_isa.specs.declared.program.Program.{Program}
@@ -17,33 +18,12 @@ use Rattle.micro_isa.specs.declared.image.Word.{Word}
 use Rattle.micro_isa.specs.declared.image.Range.{Range}
 use Rattle.micro_isa.specs.declared.image.Code.{Code}
 use Rattle.micro_isa.specs.declared.image.Image.{Image}
+use Rattle.micro_isa.specs.declared.operands.Extra.{Extra}
+use Rattle.micro_isa.specs.declared.operands.Extra.TheVariants.{Receive}
+use Rattle.micro_isa.specs.declared.operands.Extra.TheVariants as extra
+use Rattle.micro_isa.specs.Operands.{operands_of}
 use Rattle.micro_isa.specs.Columns.{written_by}
-
--- the registers that an instruction names, in the order of its text
-abbrev pub registers_in : {R : Type 0} → Instr R → List R
-registers_in (Li to n) = to ∷ []
-registers_in (Mov to from) = to ∷ from ∷ []
-registers_in (Alu op to a b) = to ∷ a ∷ b ∷ []
-registers_in (Div op to a b) = to ∷ a ∷ b ∷ []
-registers_in (Ctx to) = to ∷ []
-registers_in (Branch test a b target) = a ∷ b ∷ []
-registers_in (Load to address) = to ∷ address ∷ []
-registers_in (Store address from) = address ∷ from ∷ []
-registers_in (Recv to channel) = to ∷ []
-registers_in (Send channel from) = from ∷ []
-registers_in _ = []
-
--- where an instruction may jump
-abbrev pub target_of : {R : Type 0} → Instr R → Option ℕ
-target_of (Jmp target) = Some target
-target_of (Branch test a b target) = Some target
-target_of _ = None
-
--- it is `jmp` or `halt`: what stands behind it is not reached in order
-abbrev pub never_falls : {R : Type 0} → Instr R → Bool
-never_falls (Jmp target) = true
-never_falls Halt = true
-never_falls _ = false
+pub use Rattle.micro_isa.specs.Columns.{registers_in, target_of, never_falls}
 
 abbrev pub all_below : ℕ → List ℕ → Bool
 all_below n xs = list_all (λ x. nat_lt x n) xs
@@ -64,10 +44,13 @@ takes_words (Some (Output port)) = true
 takes_words _ = false
 
 -- the channel that an instruction names, if any, is there and of the right kind
+abbrev pub fits_extra : List Channel → Extra ℕ ℕ → Bool
+fits_extra chs (Receive channel) = gives_words (slice_get chs channel)
+fits_extra chs (extra.Send channel) = takes_words (slice_get chs channel)
+fits_extra chs _ = true
+
 abbrev pub fits_channels : {R : Type 0} → List Channel → Instr R → Bool
-fits_channels chs (Recv to channel) = gives_words (slice_get chs channel)
-fits_channels chs (Send channel from) = takes_words (slice_get chs channel)
-fits_channels chs _ = true
+fits_channels chs i = fits_extra chs (operands_of i).extra
 
 abbrev pub is_distinct : {A : Type 0} → (A → A → Bool) → List A → Bool
 is_distinct eq [] = true
@@ -111,8 +94,8 @@ is_labelled labels (Some target) = list_any (λ l. l.target == target) labels
 
 pub record IsFormedProgram (p : Program) : Type 0 where
   pub some : 1 ≤ length p.code
-  pub few : length p.code ≤ 2048
-  pub registers : length p.registers ≤ 128
+  pub few : length p.code ≤ MOST_INSTRUCTIONS
+  pub registers : length p.registers ≤ MOST_REGISTERS
   -- registers and targets exist
   pub named : Each p.code (λ l. names_below (λ r. r.0) (length p.registers) (length p.code) l.instr ≡ true)
   -- registers are numbered by their first appearance, and each appears
@@ -137,7 +120,7 @@ initial_count (Input words port) = length words
 initial_count _ = 0
 
 abbrev pub is_ring_size : ℕ → Bool
-is_ring_size capacity = nat_le 1 capacity && nat_le capacity 1024
+is_ring_size capacity = nat_le 1 capacity && nat_le capacity MOST_RING
 
 abbrev pub has_formed_ring : Channel → Bool
 has_formed_ring (Inner capacity) = is_ring_size capacity
@@ -146,19 +129,19 @@ has_formed_ring (Input words (Some port)) = is_ring_size port.capacity
 has_formed_ring (Output port) = true
 
 pub record IsFormedSetting (s : Setting) : Type 0 where
-  pub memory : s.memory ≤ 65536
-  pub few : length s.channels ≤ 16
+  pub memory : s.memory ≤ MOST_MEMORY
+  pub few : length s.channels ≤ MOST_CHANNELS
   pub rings : list_all has_formed_ring s.channels ≡ true
-  pub ports : all_below 16 (filter_map port_of s.channels) ≡ true
+  pub ports : all_below MOST_PORTS (filter_map port_of s.channels) ≡ true
   pub distinct : is_distinct nat_eq (filter_map port_of s.channels) ≡ true
-  pub words : sum (map initial_count s.channels) ≤ 65536
+  pub words : sum (map initial_count s.channels) ≤ MOST_INITIAL_WORDS
 
 pub record IsFormedBundle (b : Bundle) : Type 0 where
   pub file : 1 ≤ b.file
-  pub small : b.file ≤ 128
+  pub small : b.file ≤ MOST_FILE
   pub setting : IsFormedSetting b.setting
   pub some : 1 ≤ length b.programs
-  pub few : length b.programs ≤ 8
+  pub few : length b.programs ≤ MOST_CONTEXTS
   pub programs : Each b.programs IsFormedProgram
   pub names : length b.names ≡ length b.setting.channels
   pub distinct : is_distinct bytes_eq b.names ≡ true
@@ -206,7 +189,7 @@ writes_within own shared (Some r) = lies_in own r.0 || lies_in shared r.0
 
 pub record IsFormedCode (m : Image) (code : Code) : Type 0 where
   pub some : 1 ≤ length code.words
-  pub few : length code.words ≤ 1564672
+  pub few : length code.words ≤ MOST_WORDS
   pub within : code.private.start + code.private.size ≤ m.file
   pub named : Each code.words (λ w. names_below (λ r. r.0) m.file (length code.words) w.instr ≡ true)
   -- it writes its private range and the shared one alone
@@ -217,10 +200,10 @@ pub record IsFormedCode (m : Image) (code : Code) : Type 0 where
 
 pub record IsFormedImage (m : Image) : Type 0 where
   pub file : 1 ≤ m.file
-  pub small : m.file ≤ 128
+  pub small : m.file ≤ MOST_FILE
   pub setting : IsFormedSetting m.setting
   pub some : 1 ≤ length m.contexts
-  pub few : length m.contexts ≤ 8
+  pub few : length m.contexts ≤ MOST_CONTEXTS
   pub shared : m.shared.start + m.shared.size ≤ m.file
   pub apart : all_apart (m.shared ∷ map (λ code. code.private) m.contexts) ≡ true
   pub contexts : Each m.contexts (IsFormedCode m)

@@ -3,6 +3,7 @@ use Rattle.std.specs.Prelude.{ℕ, ◌+◌, ◌-◌, List, [], ◌∷◌, length
 use Rattle.std.specs.List.{list_all, cons_option, filter_map, fold}
 use Rattle.std.specs.Option.{option_map}
 use Rattle.std.specs.Str.{bytes_eq}
+use Rattle.micro_isa.specs.declared.limits.TheConstants.{MOST_CONTEXTS, MOST_REGISTERS, MOST_FILE, MOST_INSTRUCTIONS, MOST_WORDS, MOST_MEMORY, MOST_CHANNELS, MOST_PORTS, MOST_INITIAL_WORDS}
 use Rattle.micro_isa.specs.declared.numbers.Numbers.{Numbers}
 use Rattle.micro_isa.specs.declared.program.Line.{Line}
 use Rattle.micro_isa.specs.declared.program.Program.{Program}
@@ -13,7 +14,8 @@ use Rattle.micro_isa.specs.declared.image.Word.{Word}
 use Rattle.micro_isa.specs.declared.image.Code.{Code}
 use Rattle.micro_isa.specs.declared.image.Image.{Image}
 use Rattle.micro_isa.specs.Columns.{written_by}
-use Rattle.micro_isa.specs.Formed.{target_of, last_never_falls, all_below, is_distinct, never_drops, always_rises, named_by, names_below, is_labelled, fits_channels, port_of, initial_count, has_formed_ring, are_apart, glue_fits, writes_within}
+use Rattle.micro_isa.specs.Formed.{last_never_falls, all_below, is_distinct, never_drops, always_rises, named_by, names_below, is_labelled, fits_channels, port_of, initial_count, has_formed_ring, are_apart, glue_fits, writes_within}
+use Rattle.micro_isa.specs.Columns.{target_of}
 
 -- the numbers that are there, in their order
 abbrev pub listed : Numbers → List ℕ
@@ -29,7 +31,7 @@ is_count None k = false
 is_count (Some n) k = n == k
 
 abbrev pub size_test : Program → Bool
-size_test p = nat_le 1 (length p.code) && nat_le (length p.code) 2048 && nat_le (length p.registers) 128
+size_test p = nat_le 1 (length p.code) && nat_le (length p.code) MOST_INSTRUCTIONS && nat_le (length p.registers) MOST_REGISTERS
 
 abbrev pub register_test : Program → Bool
 register_test p =
@@ -54,12 +56,12 @@ program_test p = size_test p && register_test p && label_test p && line_test p.c
 
 abbrev pub setting_size_test : Setting → Bool
 setting_size_test s =
-    nat_le s.memory 65536 && nat_le (length s.channels) 16 && nat_le (sum (map initial_count s.channels)) 65536
+    nat_le s.memory MOST_MEMORY && nat_le (length s.channels) MOST_CHANNELS && nat_le (sum (map initial_count s.channels)) MOST_INITIAL_WORDS
 
 abbrev pub channel_test : List Channel → Bool
 channel_test chs =
     list_all has_formed_ring chs
-    && all_below 16 (filter_map port_of chs)
+    && all_below MOST_PORTS (filter_map port_of chs)
     && is_distinct nat_eq (filter_map port_of chs)
 
 abbrev pub setting_test : Setting → Bool
@@ -67,7 +69,7 @@ setting_test s = setting_size_test s && channel_test s.channels
 
 abbrev pub bundle_size_test : Bundle → Bool
 bundle_size_test b =
-    nat_le 1 b.file && nat_le b.file 128 && nat_le 1 (length b.programs) && nat_le (length b.programs) 8
+    nat_le 1 b.file && nat_le b.file MOST_FILE && nat_le 1 (length b.programs) && nat_le (length b.programs) MOST_CONTEXTS
 
 abbrev pub bundle_name_test : Bundle → Bool
 bundle_name_test b =
@@ -96,7 +98,7 @@ word_test m code w =
 
 abbrev pub code_size_test : Image → Code → Bool
 code_size_test m code =
-    nat_le 1 (length code.words) && nat_le (length code.words) 1564672
+    nat_le 1 (length code.words) && nat_le (length code.words) MOST_WORDS
     && nat_le (code.private.start + code.private.size) m.file
 
 abbrev pub code_test : Image → Code → Bool
@@ -107,7 +109,7 @@ code_test m code =
 
 abbrev pub image_size_test : Image → Bool
 image_size_test m =
-    nat_le 1 m.file && nat_le m.file 128 && nat_le 1 (length m.contexts) && nat_le (length m.contexts) 8
+    nat_le 1 m.file && nat_le m.file MOST_FILE && nat_le 1 (length m.contexts) && nat_le (length m.contexts) MOST_CONTEXTS
 
 -- no two of these have a register of their own in common
 abbrev pub codes_apart : List Code → Bool

@@ -3,3 +3,5 @@ pub mod Columns
 pub mod Names
 pub mod Formed
 pub mod FormedTests
+pub mod Table
+pub mod Operands

@@ -6,6 +6,7 @@ ghost use Rattle.micro_isa.specs.Formed.{IsFormedBundle, fits_channels};
 ghost use Rattle.micro_isa.specs.FormedTests.{bundle_test, bundle_size_test, bundle_name_test, programs_test, program_test};
 
 use crate::formed_setting::fits_channels;
+use crate::limits::{MOST_CONTEXTS, MOST_FILE};
 use crate::named::has_distinct_names;
 use crate::program::{Bundle, Channel, Line, Program};
 use crate::{formed_program, formed_setting};
@@ -34,7 +35,7 @@ fn has_formed_sizes(bundle: &Bundle) -> bool
     ensures { result ≡ bundle_size_test bundle.now }
 {
     let contexts = bundle.programs.len();
-    1 <= bundle.file && bundle.file <= 128 && 1 <= contexts && contexts <= 8
+    1 <= bundle.file && bundle.file <= MOST_FILE && 1 <= contexts && contexts <= MOST_CONTEXTS
 }
 
 fn has_formed_names(bundle: &Bundle) -> bool

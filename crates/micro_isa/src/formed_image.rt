@@ -11,6 +11,7 @@ use crate::formed_setting;
 use crate::formed_setting::fits_channels;
 use crate::image::{Code, Image, PReg, Range, Word};
 use crate::instr::{Instr, writes};
+use crate::limits::{MOST_CONTEXTS, MOST_FILE, MOST_WORDS};
 use crate::numbers::{names_below, never_falls};
 
 impl Word {
@@ -44,7 +45,7 @@ fn has_formed_sizes(image: &Image) -> bool
     ensures { result ≡ image_size_test image.now }
 {
     let contexts = image.contexts.len();
-    1 <= image.file && image.file <= 128 && 1 <= contexts && contexts <= 8
+    1 <= image.file && image.file <= MOST_FILE && 1 <= contexts && contexts <= MOST_CONTEXTS
 }
 
 fn has_formed_ranges(image: &Image) -> bool
@@ -88,6 +89,7 @@ fn is_apart_from_all(range: &Range, contexts: &[Code]) -> bool
     contexts.iter().all(|code| are_apart(range, &code.private))
 }
 
+/// Whether two ranges have no register in common; an empty one meets none.
 pub fn are_apart(a: &Range, b: &Range) -> bool
     ensures { result ≡ are_apart a.now b.now }
 {
@@ -105,7 +107,7 @@ fn has_formed_size(image: &Image, code: &Code) -> bool
     ensures { result ≡ code_size_test image.now code.now }
 {
     let size = code.words.len();
-    1 <= size && size <= 1_564_672 && end(&code.private) <= u64::from(image.file)
+    1 <= size && size <= MOST_WORDS && end(&code.private) <= u64::from(image.file)
 }
 
 fn all_words_pass(image: &Image, code: &Code, words: &[Word]) -> bool
@@ -124,6 +126,7 @@ fn word_passes(image: &Image, code: &Code, word: &Word) -> bool
         && fits_channels(image.setting.channels.as_slice(), &word.instr)
 }
 
+/// Whether the register written, if any, lies in one of these ranges.
 pub fn writes_within(own: &Range, shared: &Range, written: Option<PReg>) -> bool
     ensures { result ≡ writes_within own.now shared.now written }
 {
@@ -145,6 +148,7 @@ fn glue_fits(words: &[Word], word: &Word) -> bool
     word.counted || (is_glue(&word.instr) && goes_to_counted(words, &word.instr))
 }
 
+/// Whether a word that is not counted may hold the instruction: a move, an exclusive or, or a jump.
 pub fn is_glue(instr: &Instr<PReg>) -> bool
     ensures { result ≡ is_glue instr.now }
 {
@@ -154,6 +158,7 @@ pub fn is_glue(instr: &Instr<PReg>) -> bool
     )
 }
 
+/// Whether an instruction, where it is a jump, goes to a counted word.
 pub fn goes_to_counted(words: &[Word], instr: &Instr<PReg>) -> bool
     ensures { result ≡ goes_to_counted words.now instr.now }
 {

@@ -3,9 +3,11 @@
 ghost use Rattle.std.specs.Prelude.{◌≡◌, ◌↔◌, ◌-◌, ◌==◌, IsTrue, Some, nat_lt, length, map, slice_get};
 ghost use Rattle.std.specs.List.{list_any, list_all, fold};
 ghost use Rattle.std.specs.Option.{option_map};
-ghost use Rattle.micro_isa.specs.Formed.{IsFormedProgram, never_drops, always_rises, named_by, names_below, is_labelled, target_of, last_never_falls};
+ghost use Rattle.micro_isa.specs.Formed.{IsFormedProgram, never_drops, always_rises, named_by, names_below, is_labelled, last_never_falls};
+ghost use Rattle.micro_isa.specs.Columns.{target_of};
 ghost use Rattle.micro_isa.specs.FormedTests.{program_test, size_test, register_test, label_test, line_test, appear, is_count};
 
+use crate::limits::{MOST_INSTRUCTIONS, MOST_REGISTERS};
 use crate::named::has_distinct_names;
 use crate::numbers::{appear_in, names_below, never_falls, target};
 use crate::program::{Label, Line, Program};
@@ -32,7 +34,7 @@ fn has_formed_sizes(program: &Program) -> bool
     ensures { result ≡ size_test program.now }
 {
     let size = program.code.len();
-    1 <= size && size <= 2048 && program.registers.len() <= 128
+    1 <= size && size <= MOST_INSTRUCTIONS && program.registers.len() <= MOST_REGISTERS
 }
 
 fn has_formed_registers(program: &Program) -> bool

@@ -1,12 +1,14 @@
 //! Whether a setting is formed, and whether an instruction fits its channels.
 
-ghost use Rattle.std.specs.Prelude.{◌≡◌, ◌↔◌, IsTrue, nat_eq, nat_le, sum, map, false, slice_get};
+ghost use Rattle.std.specs.Prelude.{◌≡◌, ◌↔◌, IsTrue, nat_eq, nat_le, sum, map, false, option_map};
 ghost use Rattle.std.specs.List.{list_any, list_all, filter_map};
 ghost use Rattle.std.specs.Option.{option_map_or};
 ghost use Rattle.micro_isa.specs.Formed.{IsFormedSetting, all_below, is_distinct, port_of, initial_count, is_ring_size, has_formed_ring, gives_words, takes_words, fits_channels};
 ghost use Rattle.micro_isa.specs.FormedTests.{setting_test, setting_size_test, channel_test};
 
 use crate::instr::Instr;
+use crate::limits::{MOST_CHANNELS, MOST_INITIAL_WORDS, MOST_MEMORY, MOST_PORTS, MOST_RING};
+use crate::operands::{Extra, operands_of};
 use crate::program::{Channel, Setting};
 
 impl Setting {
@@ -28,7 +30,7 @@ fn has_formed_sizes(setting: &Setting) -> bool
     ensures { result ≡ setting_size_test setting.now }
 {
     let channels = setting.channels.as_slice();
-    setting.memory <= 65_536 && channels.len() <= 16 && have_few_words(channels)
+    setting.memory <= MOST_MEMORY && channels.len() <= MOST_CHANNELS && have_few_words(channels)
 }
 
 fn are_formed(channels: &[Channel]) -> bool
@@ -56,13 +58,15 @@ fn has_formed_ring(channel: &Channel) -> bool
     }
 }
 
+/// Whether a channel may have this capacity.
 pub fn is_ring_size(capacity: u32) -> bool
     ensures { result ≡ is_ring_size capacity }
 {
-    1 <= capacity && capacity <= 1024
+    1 <= capacity && capacity <= MOST_RING
 }
 
-fn port_of(channel: &Channel) -> Option<u8>
+/// The number of a channel's port, if it has one.
+pub fn port_of(channel: &Channel) -> Option<u8>
     ensures { result ≡ port_of channel.now }
 {
     match channel {
@@ -76,12 +80,12 @@ fn port_of(channel: &Channel) -> Option<u8>
 }
 
 fn have_ports_below(channels: &[Channel]) -> bool
-    ensures { result ≡ all_below 16 (filter_map port_of channels.now) }
+    ensures { result ≡ all_below MOST_PORTS (filter_map port_of channels.now) }
 {
     channels
         .iter()
         .filter_map(|channel| port_of(channel))
-        .all(|port| port < 16)
+        .all(|port| usize::from(port) < MOST_PORTS)
 }
 
 fn have_distinct_ports(channels: &[Channel]) -> bool
@@ -106,6 +110,7 @@ fn have_port(channels: &[Channel], port: Option<u8>) -> bool
     }
 }
 
+/// Whether a channel has this port.
 pub fn uses_port(channels: &[Channel], port: u8) -> bool
     ensures { result ≡ list_any (nat_eq port) (filter_map port_of channels.now) }
 {
@@ -116,9 +121,9 @@ pub fn uses_port(channels: &[Channel], port: u8) -> bool
 }
 
 fn have_few_words(channels: &[Channel]) -> bool
-    ensures { result ≡ nat_le (sum (map initial_count channels.now)) 65536 }
+    ensures { result ≡ nat_le (sum (map initial_count channels.now)) MOST_INITIAL_WORDS }
 {
-    let mut left = 65_536;
+    let mut left = MOST_INITIAL_WORDS;
     for channel in channels {
         let count = initial_count(channel);
         if left < count {
@@ -129,6 +134,7 @@ fn have_few_words(channels: &[Channel]) -> bool
     true
 }
 
+/// How many initial words a channel has.
 pub fn initial_count(channel: &Channel) -> usize
     ensures { result ≡ initial_count channel.now }
 {
@@ -139,30 +145,29 @@ pub fn initial_count(channel: &Channel) -> usize
 }
 
 /// Whether the channel that an instruction names, if any, is there and of the right kind.
-pub fn fits_channels<R>(channels: &[Channel], instr: &Instr<R>) -> bool
+pub fn fits_channels<R: Copy>(channels: &[Channel], instr: &Instr<R>) -> bool
     ensures { result ≡ fits_channels channels.now instr.now }
 {
-    match instr {
-        Instr::Recv { channel, .. } => gives_words(channels, *channel),
-        Instr::Send { channel, .. } => takes_words(channels, *channel),
+    match operands_of(instr).extra {
+        Extra::Receive(channel) => gives_words(channels.get(channel as usize)),
+        Extra::Send(channel) => takes_words(channels.get(channel as usize)),
         _ => true,
     }
 }
 
-fn gives_words(channels: &[Channel], channel: u8) -> bool
-    ensures { result ≡ gives_words (slice_get channels.now channel) }
+/// Whether words are received from such a channel.
+pub fn gives_words(channel: Option<&Channel>) -> bool
+    ensures { result ≡ gives_words (option_map (λ c. c.now) channel.entry) }
 {
-    match channels.get(channel as usize) {
-        Some(Channel::Inner { .. } | Channel::Input { .. }) => true,
-        _ => false,
-    }
+    matches!(channel, Some(Channel::Inner { .. } | Channel::Input { .. }))
 }
 
-fn takes_words(channels: &[Channel], channel: u8) -> bool
-    ensures { result ≡ takes_words (slice_get channels.now channel) }
+/// Whether words are sent to such a channel.
+pub fn takes_words(channel: Option<&Channel>) -> bool
+    ensures { result ≡ takes_words (option_map (λ c. c.now) channel.entry) }
 {
-    match channels.get(channel as usize) {
-        Some(Channel::Inner { .. } | Channel::Output { .. }) => true,
-        _ => false,
-    }
+    matches!(
+        channel,
+        Some(Channel::Inner { .. } | Channel::Output { .. })
+    )
 }

@@ -2,6 +2,8 @@ ghost use Rattle.std.specs.Prelude.{◌≡◌, ◌<◌};
 ghost use Rattle.micro_isa.specs.Columns.{reads_in, written_by, switches_at, next_of};
 
 use crate::arithmetic::{AluOp, DivOp, Test};
+use crate::operands::{operands_of, operation_of};
+use crate::operation::switching;
 
 /// An instruction over registers of the kind `R`: those of a source context, or those of the file.
 #[derive(Clone, Copy, Debug, PartialEq, Eq)]
@@ -52,27 +54,10 @@ pub struct Next {
 pub fn reads_of<R: Copy>(instr: &Instr<R>) -> Reads<R>
     ensures { result ≡ reads_in instr.now }
 {
-    match *instr {
-        Instr::Alu { a, b, .. } | Instr::Div { a, b, .. } | Instr::Branch { a, b, .. } => Reads {
-            first: Some(a),
-            second: Some(b),
-        },
-        Instr::Store { address, from } => Reads {
-            first: Some(address),
-            second: Some(from),
-        },
-        Instr::Mov { from, .. } | Instr::Send { from, .. } => Reads {
-            first: Some(from),
-            second: None,
-        },
-        Instr::Load { address, .. } => Reads {
-            first: Some(address),
-            second: None,
-        },
-        _ => Reads {
-            first: None,
-            second: None,
-        },
+    let operands = operands_of(instr);
+    Reads {
+        first: operands.a,
+        second: operands.b,
     }
 }
 
@@ -80,30 +65,14 @@ pub fn reads_of<R: Copy>(instr: &Instr<R>) -> Reads<R>
 pub fn writes<R: Copy>(instr: &Instr<R>) -> Option<R>
     ensures { result ≡ written_by instr.now }
 {
-    match *instr {
-        Instr::Li { to, .. }
-        | Instr::Mov { to, .. }
-        | Instr::Alu { to, .. }
-        | Instr::Div { to, .. }
-        | Instr::Ctx { to }
-        | Instr::Load { to, .. }
-        | Instr::Recv { to, .. } => Some(to),
-        _ => None,
-    }
+    operands_of(instr).to
 }
 
 /// Whether the engine goes to another context after this instruction.
 pub fn switches<R>(instr: &Instr<R>) -> bool
     ensures { result ≡ switches_at instr.now }
 {
-    matches!(
-        instr,
-        Instr::Load { .. }
-            | Instr::Store { .. }
-            | Instr::Yield
-            | Instr::Recv { .. }
-            | Instr::Send { .. }
-    )
+    switching(operation_of(instr))
 }
 
 /// The instructions that may follow the one at `at`.

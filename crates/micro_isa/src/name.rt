@@ -4,6 +4,7 @@ ghost use Rattle.std.specs.Cmp.{partial_equiv_from_equiv};
 ghost use Rattle.std.specs.Cmp.Lexicographic.{pointwise, nat_list_eq_equiv};
 ghost use Rattle.micro_isa.specs.Names.{IsName, name_test, is_head, is_tail};
 
+use crate::limits::LONGEST_NAME;
 use crate::list::NoMemory;
 use std::alloc::Global;
 use std::marker::Model;
@@ -71,7 +72,7 @@ pub fn is_name(bytes: &[u8]) -> bool
 {
     match bytes {
         [] => false,
-        [first, ..] => bytes.len() <= 32 && is_head(*first) && all_tails(bytes),
+        [first, ..] => bytes.len() <= LONGEST_NAME && is_head(*first) && all_tails(bytes),
     }
 }
 

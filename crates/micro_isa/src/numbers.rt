@@ -3,11 +3,14 @@
 ghost use Rattle.std.specs.Prelude.{◌≡◌, ℕ, ◌<◌, map, [], Some};
 ghost use Rattle.std.specs.List.{cons_option, fold};
 ghost use Rattle.std.specs.Option.{option_map};
-ghost use Rattle.micro_isa.specs.Formed.{registers_in, target_of, never_falls, names_below, option_below, all_below};
+ghost use Rattle.micro_isa.specs.Formed.{names_below, option_below, all_below};
+ghost use Rattle.micro_isa.specs.Columns.{registers_in, target_of, never_falls};
 ghost use Rattle.micro_isa.specs.FormedTests.{listed, appear};
 
 use crate::image::PReg;
-use crate::instr::{Instr, reads_of, writes};
+use crate::instr::Instr;
+use crate::operands::{Extra, operands_of, operation_of};
+use crate::operation::ends;
 use crate::program::VReg;
 
 /// A register of a program or of the file.
@@ -45,11 +48,11 @@ pub(crate) struct Numbers {
 pub(crate) fn numbers_in<R: Register>(instr: &Instr<R>) -> Numbers
     ensures { listed result ≡ map R.number_of (registers_in instr.now) }
 {
-    let reads = reads_of(instr);
+    let operands = operands_of(instr);
     Numbers {
-        first: number(writes(instr)),
-        second: number(reads.first),
-        third: number(reads.second),
+        first: number(operands.to),
+        second: number(operands.a),
+        third: number(operands.b),
     }
 }
 
@@ -110,11 +113,11 @@ fn is_target_below(target: Option<u32>, bound: usize) -> bool
 }
 
 /// Where an instruction may jump.
-pub(crate) fn target<R>(instr: &Instr<R>) -> Option<u32>
+pub(crate) fn target<R: Copy>(instr: &Instr<R>) -> Option<u32>
     ensures { result ≡ target_of instr.now }
 {
-    match instr {
-        Instr::Jmp { target } | Instr::Branch { target, .. } => Some(*target),
+    match operands_of(instr).extra {
+        Extra::Target(target) => Some(target),
         _ => None,
     }
 }
@@ -123,7 +126,7 @@ pub(crate) fn target<R>(instr: &Instr<R>) -> Option<u32>
 pub fn never_falls<R>(instr: &Instr<R>) -> bool
     ensures { result ≡ never_falls instr.now }
 {
-    matches!(instr, Instr::Jmp { .. } | Instr::Halt)
+    ends(operation_of(instr))
 }
 
 /// How many registers have appeared behind this instruction, if each new one has the next number.
