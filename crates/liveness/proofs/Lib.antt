@@ -1,3 +1,7 @@
 pub mod Masks
+pub mod Sizes
+pub mod Members
+pub mod Staying
+pub mod Steps
 pub mod Visits
 pub mod Successors

@@ -6,9 +6,9 @@ use Rattle.micro_isa.specs.declared.program.Line.{Line}
 use Rattle.micro_isa.specs.Columns.{switches_at}
 use Rattle.liveness.specs.Liveness.{LiveIn}
 use Rattle.liveness.specs.Sets.{HasSize}
-use Rattle.pressure.specs.Boundaries.{SwitchesAt}
-use Rattle.pressure.specs.Pressures.{Stays, IsAfter, IsPrivatePressure, IsTotalPressure}
-use Rattle.pressure.proofs.Sizes.{smaller}
+use Rattle.liveness.specs.Surviving.{SwitchesAt, Stays, IsAfter}
+use Rattle.liveness.specs.Pressures.{IsPrivatePressure, IsTotalPressure}
+use Rattle.liveness.proofs.Sizes.{smaller}
 
 -- the greatest over the instructions below n
 pub record IsPrivateBelow (code : List Line) (n p : ℕ) : Type 0 where

@@ -1,8 +1,6 @@
-pub mod Sizes
 pub mod Greatest
 pub mod Spreading
 pub mod Numbering
 pub mod Merging
-pub mod Parts
 pub mod Switching
 pub mod Closed

@@ -7,7 +7,8 @@ use Rattle.std.proofs.lemmas.Option.{slice_get_within, slice_get-get_or, get_or_
 use Rattle.std.proofs.Math.Seq.{get_or-append_seam}
 use Rattle.micro_isa.specs.declared.program.Line.{Line}
 use Rattle.micro_isa.specs.Columns.{switches_at}
-use Rattle.pressure.specs.Boundaries.{SwitchesAt, AreBoundaries}
+use Rattle.liveness.specs.Surviving.{SwitchesAt}
+use Rattle.pressure.specs.Boundaries.{AreBoundaries}
 
 pub record AreBoundariesBelow (code : List Line) (n : ℕ) (list : List ℕ) : Type 0 where
   pub each : (k : ℕ) → Contains list k ↔ ((k < n) × SwitchesAt code k)

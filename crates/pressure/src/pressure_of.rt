@@ -2,7 +2,9 @@ ghost use Rattle.std.specs.Prelude.{ℕ, ◌≤◌, ◌<◌, length};
 ghost use Rattle.flow_graph.specs.Paths.{IsClosedCode};
 ghost use Rattle.liveness.specs.Lives.{IsLiveOf};
 ghost use Rattle.liveness.specs.Sets.{HasSize};
-ghost use Rattle.pressure.specs.Pressures.{IsPressureOf, IsPrivatePressure, IsTotalPressure, Stays};
+ghost use Rattle.liveness.specs.Surviving.{Stays};
+ghost use Rattle.liveness.specs.Pressures.{IsPrivatePressure, IsTotalPressure};
+ghost use Rattle.pressure.specs.Pressures.{IsPressureOf};
 
 use crate::size::{after_size, in_size, stay_size};
 use liveness::Live;

@@ -8,7 +8,7 @@ use Rattle.std.proofs.lemmas.Map.Steps.{le-length_from_below}
 use Rattle.micro_isa.specs.declared.program.Line.{Line}
 use Rattle.micro_isa.specs.declared.program.Program.{Program}
 use Rattle.micro_isa.specs.declared.program.Bundle.{Bundle}
-use Rattle.pressure.specs.Pressures.{IsPrivatePressure, IsTotalPressure}
+use Rattle.liveness.specs.Pressures.{IsPrivatePressure, IsTotalPressure}
 use Rattle.pressure.specs.Regions.{IsNumbered}
 use Rattle.report_check.specs.declared.facts.Facts.{Facts}
 use Rattle.report_check.specs.Text.{in_order}

@@ -1,18 +1,9 @@
-use Rattle.std.proofs.Common.{subst, arith, sym}
-use Rattle.liveness.specs.Sets.{IsSetOf}
-use Rattle.liveness.specs.Liveness.{LiveOut}
-use Rattle.std.proofs.lemmas.Nat.{or_lt}
-use Rattle.pressure.proofs.Sizes.{ones_few}
-use Rattle.pressure.proofs.Parts.{written_small, after_sized}
+use Rattle.std.proofs.Common.{arith}
+use Rattle.liveness.proofs.Sizes.{sized, ones_few}
 use Rattle.pressure.proofs.size.after_size.Goals as goal
 
-pub bit-requires : goal.bit-requires
-bit-requires c = written_small _ _ _ _ c.writes.ensures c.requires.here c.requires.closed
-
 pub returns-clause-exact : goal.returns-clause-exact
-returns-clause-exact c =
-    let out = subst (λ set. IsSetOf (LiveOut c.args.code.now c.args.i) set) (sym c.live_out.ensures) (c.requires.live.live_out _ c.requires.here) in
-    after_sized _ _ _ _ c.writes.ensures c.requires.here c.live_out.result c.bit.result (omega arith) (omega arith) out c.bit.ensures
+returns-clause-exact c = sized _ _ (omega arith) c.values_after.ensures
 
 pub returns-clause-few : goal.returns-clause-few
-returns-clause-few c = ones_few _ (or_lt 128 c.live_out.result c.bit.result (omega arith) (omega arith))
+returns-clause-few c = ones_few c.values_after.result (omega arith)

@@ -1,5 +1,5 @@
 use Rattle.std.proofs.Common.{subst, arith, sym}
-use Rattle.pressure.proofs.Sizes.{sized}
+use Rattle.liveness.proofs.Sizes.{sized}
 use Rattle.liveness.specs.Sets.{IsSetOf}
 use Rattle.liveness.specs.Liveness.{LiveIn}
 use Rattle.pressure.proofs.size.in_size.Goals as goal

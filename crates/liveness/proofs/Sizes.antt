@@ -1,5 +1,5 @@
 -- Sizes of sets of registers.
-use Rattle.std.proofs.Common.{◌≡◌, ◌==◌, ℕ, zero, suc, ◌+◌, ◌/◌, ◌%◌, ◌^◌, ◌<◌, ◌≤◌, Bool, true, false, cond, List, [], ◌∷◌, ◌++◌, length, ap, sym, subst, refl, ◌∙◌, ◌⊎◌, inl, inr, Contains, arith}
+use Rattle.std.proofs.Common.{◌≡◌, ◌==◌, ℕ, zero, suc, ◌+◌, ◌/◌, ◌%◌, ◌^◌, ◌<◌, ◌≤◌, Bool, true, false, cond, [], ◌∷◌, ◌++◌, length, ap, sym, subst, refl, ◌∙◌, ◌⊎◌, inl, inr, Contains, arith}
 use Rattle.std.specs.Prelude.{count_ones, bit_and, bit_or, nat_eq}
 use Rattle.std.specs.Int.{bit_at, bit_not, w128}
 use Rattle.std.specs.Cmp.{nat_eq_equiv, unsigned_Decides}
@@ -12,10 +12,10 @@ use Rattle.std.proofs.lemmas.Map.Keys.{IsDistinct-push, IsDistinct-from_apart}
 use Rattle.std.proofs.lemmas.Map.Made.{is_member-Decides, length-le_from_is_member}
 use Rattle.std.proofs.lemmas.Nat.Bits.{bit_at_lowest, bit_at-suc, bit_at-lt, bit_at_or, bit_at_and, bit_at_not, bit_at_above}
 use lib.Count.{ones_step}
-use Rattle.liveness.specs.Sets.{IsSetOf, HasSize}
+use Rattle.liveness.specs.Sets.{IsSetOf, HasSize, members}
 
 -- how many bits below k are set
-unfoldable size_below : ℕ → ℕ → ℕ
+unfoldable pub size_below : ℕ → ℕ → ℕ
 size_below zero n = 0
 size_below (suc k) n = size_below k n + bit_at n k
 
@@ -24,7 +24,7 @@ unfolding size_below lib.Count.ones
 by_low zero n = let l = bit_at_lowest n in omega arith
 by_low (suc k) n = let on = by_low k n in let b = bit_at-suc n k in omega arith
 
-ones_size : (k n : ℕ) → n < 2 ^ k → count_ones n ≡ size_below k n
+pub ones_size : (k n : ℕ) → n < 2 ^ k → count_ones n ≡ size_below k n
 unfolding size_below lib.Count.ones
 ones_size zero n small = let none : n ≡ 0 = omega arith in ap count_ones none
 ones_size (suc k) n small =
@@ -33,7 +33,7 @@ ones_size (suc k) n small =
     let on = ones_size k (n / 2) (omega arith) in
     omega arith
 
-size_le : (k n : ℕ) → size_below k n ≤ k
+pub size_le : (k n : ℕ) → size_below k n ≤ k
 unfolding size_below
 size_le zero n = omega arith
 size_le (suc k) n = let on = size_le k n in let b = bit_at-lt n k in omega arith
@@ -41,12 +41,7 @@ size_le (suc k) n = let on = size_le k n in let b = bit_at-lt n k in omega arith
 pub ones_few : (n : ℕ) → n < 2 ^ 128 → count_ones n ≤ 128
 ones_few n small = let e = ones_size 128 n small in let le = size_le 128 n in omega arith
 
--- the set bits below a bound
-unfoldable members : ℕ → ℕ → List ℕ
-members zero set = []
-members (suc k) set = cond (bit_at set k == 1) (members k set ++ k ∷ []) (members k set)
-
-length_members : (k n : ℕ) → length (members k n) ≡ size_below k n
+pub length_members : (k n : ℕ) → length (members k n) ≡ size_below k n
 unfolding members size_below
 length_members zero n = refl
 length_members (suc k) n =
@@ -60,7 +55,7 @@ length_members (suc k) n =
     ] in
     goes (bit_at n k == 1) refl
 
-member_set : (w n k : ℕ) → Contains (members w n) k → (k < w) × (bit_at n k ≡ 1)
+pub member_set : (w n k : ℕ) → Contains (members w n) k → (k < w) × (bit_at n k ≡ 1)
 unfolding members
 member_set zero n k has = absurd (let none = has.1 in omega arith)
 member_set (suc w) n k has =
@@ -74,7 +69,7 @@ member_set (suc w) n k has =
     ] in
     goes (bit_at n w == 1) refl has
 
-set_member : (w n k : ℕ) → k < w → bit_at n k ≡ 1 → Contains (members w n) k
+pub set_member : (w n k : ℕ) → k < w → bit_at n k ≡ 1 → Contains (members w n) k
 unfolding members
 set_member zero n k less one = absurd (omega arith)
 set_member (suc w) n k less one =
@@ -95,7 +90,7 @@ not_true : (b : Bool) → (b ≡ true → ⊥) → b ≡ false
 not_true true never = absurd (never refl)
 not_true false never = refl
 
-members_distinct : (w n : ℕ) → IsDistinct nat_eq (members w n)
+pub members_distinct : (w n : ℕ) → IsDistinct nat_eq (members w n)
 unfolding members
 members_distinct zero n = IsDistinct-from_apart nat_eq [] (λ i j d less inside. absurd (omega arith))
 members_distinct (suc w) n =
@@ -107,7 +102,7 @@ members_distinct (suc w) n =
     elim [ true ↦ IsDistinct-push nat_eq_equiv (members w n) w on new | false ↦ on ] in
     goes (bit_at n w == 1)
 
-below_width : (n k : ℕ) → n < 2 ^ 128 → bit_at n k ≡ 1 → k < 128
+pub below_width : (n k : ℕ) → n < 2 ^ 128 → bit_at n k ≡ 1 → k < 128
 below_width n k small one =
     elim (leb_tells 128 k) [
       | inl past ↦ absurd (let none = bit_at_above n 128 k small past.1 in omega arith)

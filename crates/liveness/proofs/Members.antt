@@ -1,0 +1,90 @@
+-- Sets of registers as increasing lists.
+use Rattle.std.proofs.Common.{◌≡◌, ◌≢◌, ◌==◌, eqb, ℕ, zero, suc, ◌/◌, ◌^◌, ◌<◌, ◌*◌, ◌%◌, Bool, true, false, cond, [], ◌∷◌, ◌++◌, length, get_or, ap, sym, subst, refl, ◌∙◌, inl, inr, arith, bit_and}
+use Rattle.std.specs.Int.{bit_at, bit_not, w128, trailing_zeros}
+use Rattle.std.proofs.lemmas.Bool.{cases_eq}
+use Rattle.std.proofs.lemmas.List.{get_or_append_left, length-append}
+use Rattle.std.proofs.lemmas.List.Elements.{Contains-get_or}
+use Rattle.std.proofs.lemmas.Nat.Bits.{shr_and_one, bit_at-trailing_zeros, bit_at_clear_same, bit_at_clear_other}
+use Rattle.std.proofs.Math.Seq.{get_or-append_seam}
+use Rattle.liveness.specs.Sets.{IsSetOf, Lists, members}
+use Rattle.liveness.proofs.Sizes.{member_set, set_member, below_width}
+
+pub has_bit : (n k : ℕ) → eqb (bit_and (n / 2 ^ k) 1) 1 ≡ (bit_at n k == 1)
+has_bit n k = ap (λ b. eqb b 1) (shr_and_one n k)
+
+-- the members rise
+
+members_rising : (w n a b : ℕ) → a < b → b < length (members w n) → get_or (members w n) a 0 < get_or (members w n) b 0
+unfolding members
+members_rising zero n a b less inside = absurd (omega arith)
+members_rising (suc w) n a b less inside = by (members_rising w n) (bit_at n w == 1) inside
+  where
+    by : ((c d : ℕ) → c < d → d < length (members w n) → get_or (members w n) c 0 < get_or (members w n) d 0)
+        → (t : Bool) → b < length (cond t (members w n ++ w ∷ []) (members w n))
+        → get_or (cond t (members w n ++ w ∷ []) (members w n)) a 0 < get_or (cond t (members w n ++ w ∷ []) (members w n)) b 0
+    by rises true within =
+        let long = length-append (members w n) (w ∷ []) in
+        let a_in : a < length (members w n) = omega arith in
+        let first = get_or_append_left (members w n) (w ∷ []) 0 a a_in in
+        elim (cases_eq b (length (members w n))) [
+          | inl last ↦
+              let seam = get_or-append_seam (members w n) w [] 0 in
+              let low = (member_set w n (get_or (members w n) a 0) (Contains-get_or (members w n) a 0 a_in)).0 in
+              rw (last, seam, first) low
+          | inr other ↦
+              let b_in : b < length (members w n) = omega arith in
+              let second = get_or_append_left (members w n) (w ∷ []) 0 b b_in in
+              rw (first, second) (rises a b less b_in)
+        ]
+    by rises false within = rises a b less within
+
+-- a set's members list what it stands for
+pub listed : (S : ℕ → Type 0) (set : ℕ) → set < 2 ^ 128 → IsSetOf S set → Lists S (members 128 set)
+listed S set small is = record {
+  exact = λ k. (
+    λ has. (is.exact k).0 (member_set 128 set k has).1,
+    λ holds. let one = (is.exact k).1 holds in set_member 128 set k (below_width set k small one) one,
+  );
+  rising = members_rising 128 set;
+}
+
+-- the least one, and the others
+no_members : (w n : ℕ) → ((i : ℕ) → i < w → bit_at n i ≡ 0) → members w n ≡ []
+unfolding members
+no_members zero n none = refl
+no_members (suc w) n none =
+    let on = no_members w n (λ i less. none i (omega arith)) in
+    let here = none w (omega arith) in
+    rw here on
+
+least_first : (w n m t : ℕ) → t < w → bit_at n t ≡ 1 → ((i : ℕ) → i < t → bit_at n i ≡ 0) → bit_at m t ≡ 0
+    → ((i : ℕ) → i < w → i ≢ t → bit_at m i ≡ bit_at n i) → members w n ≡ t ∷ members w m
+unfolding members
+least_first zero n m t less one low none same = absurd (omega arith)
+least_first (suc w) n m t less one low none same =
+    elim (cases_eq t w) [
+      | inl last ↦
+          let none_n = no_members w n (λ i under. low i (omega arith)) in
+          let none_m = no_members w m (λ i under. same i (omega arith) (omega arith) ∙ low i (omega arith)) in
+          let top : bit_at n w ≡ 1 = subst (λ j. bit_at n j ≡ 1) last one in
+          let off : bit_at m w ≡ 0 = subst (λ j. bit_at m j ≡ 0) last none in
+          rw (top, off, none_n, none_m) (ap (λ j. j ∷ []) (sym last))
+      | inr other ↦
+          let rest = least_first w n m t (omega arith) one low none (λ i under. same i (omega arith)) in
+          let top = same w (omega arith) (λ e. other (sym e)) in
+          let push : (b : Bool) → cond b ((t ∷ members w m) ++ w ∷ []) (t ∷ members w m) ≡ t ∷ cond b (members w m ++ w ∷ []) (members w m) =
+          elim [ true ↦ refl | false ↦ refl ] in
+          rw (top, rest) (push (bit_at n w == 1))
+    ]
+
+pub takes_least : (n : ℕ) → 0 < n → n < 2 ^ 128
+    → members 128 n ≡ trailing_zeros w128 n ∷ members 128 (bit_and n (bit_not w128 (1 * 2 ^ trailing_zeros w128 n % 2 ^ 128)))
+takes_least n some small =
+    let t = bit_at-trailing_zeros w128 n some small in
+    least_first 128 n (bit_and n (bit_not w128 (1 * 2 ^ trailing_zeros w128 n % 2 ^ 128))) (trailing_zeros w128 n) t.0 t.1 t.2
+    (bit_at_clear_same w128 n (trailing_zeros w128 n) t.0)
+    (λ i within other. bit_at_clear_other w128 n (trailing_zeros w128 n) t.0 i within other)
+
+pub takes_none : members 128 0 ≡ []
+unfolding members
+takes_none = refl
