@@ -1,8 +1,9 @@
 -- An instruction is its operation and its operands, and the table names each operation once.
 use Rattle.std.proofs.Common.{◌≡◌, ℕ, Option, Some, None, true, refl, subst, nat_lt}
-use Rattle.std.proofs.Common.{◌==◌, Bool, false, cond, List, [], ◌∷◌}
+use Rattle.std.proofs.Common.{◌==◌, ◌≤◌, ◌-◌, suc, sym, ap, ◌∙◌, arith, rules, Bool, false, cond, List, [], ◌∷◌}
+use Rattle.std.specs.Prelude.{slice_get}
 use Rattle.std.specs.List.{find}
-use Rattle.std.proofs.lemmas.Bool.{eqb-true}
+use Rattle.std.proofs.lemmas.Bool.{eqb-true, eqb-false}
 use Rattle.std.proofs.lemmas.Option.{same_Some}
 use Rattle.micro_isa.specs.declared.arithmetic.AluOp.TheVariants as op
 use Rattle.micro_isa.specs.declared.arithmetic.DivOp.TheVariants.{Quotient, Remainder}
@@ -105,3 +106,27 @@ coded_is n o h = go operations h
         at : (b : Bool) → ((row_of p).opcode == n) ≡ b → cond b (Some p) (find (λ (q : Operation). (row_of q).opcode == n) ps) ≡ Some o → (find (λ (q : Operation). (row_of q).opcode == n) ps ≡ Some o → (row_of o).opcode ≡ n) → (row_of o).opcode ≡ n
         at true f g later = subst (λ (q : Operation). (row_of q).opcode ≡ n) (same_Some p o g) (eqb-true (row_of p).opcode n f)
         at false f g later = later g
+
+-- the operations of a table whose opcodes follow on this one
+
+abbrev Follow : ℕ → List Operation → Type 0
+Follow n [] = Unit {0}
+Follow n (o ∷ os) = ((row_of o).opcode ≡ n) × Follow (suc n) os
+
+coded_from : (os : List Operation) (first n : ℕ) → Follow first os → first ≤ n → find (λ (o : Operation). (row_of o).opcode == n) os ≡ slice_get os (n - first)
+coded_from [] first n f le = refl
+coded_from (o ∷ os) first n f le = go ((row_of o).opcode == n) refl (coded_from os (suc first) n f.1)
+  where
+    go : (b : Bool) → ((row_of o).opcode == n) ≡ b → (suc first ≤ n → find (λ (p : Operation). (row_of p).opcode == n) os ≡ slice_get os (n - suc first)) → cond b (Some o) (find (λ (p : Operation). (row_of p).opcode == n) os) ≡ slice_get (o ∷ os) (n - first)
+    go true e later =
+        let same = eqb-true (row_of o).opcode n e in
+        let here : n - first ≡ 0 = omega (arith, same, f.0) in
+        ap (λ (i : ℕ). slice_get (o ∷ os) i) (sym here)
+    go false e later =
+        let other = eqb-false (row_of o).opcode n e in
+        let next : n - first ≡ suc (n - suc first) = omega (arith, other, f.0, le) in
+        later (omega (arith, other, f.0, le)) ∙ ap (λ (i : ℕ). slice_get (o ∷ os) i) (sym next)
+
+-- an opcode is the place of its operation in the table, counted from 1
+pub coded_at : (n : ℕ) → 1 ≤ n → coded n ≡ slice_get operations (n - 1)
+coded_at n le = coded_from operations 1 n (search rules) le

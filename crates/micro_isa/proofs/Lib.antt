@@ -2,3 +2,4 @@ pub mod Mapped
 mod Appearing
 mod Deciding
 pub mod Laws
+pub mod Words

@@ -5,3 +5,4 @@ pub mod Formed
 pub mod FormedTests
 pub mod Table
 pub mod Operands
+pub mod WordBytes

@@ -2,6 +2,8 @@
 #![tactic(auto)]
 
 mod arithmetic;
+mod codec;
+mod fields;
 mod formed_bundle;
 mod formed_image;
 mod formed_program;
@@ -18,6 +20,7 @@ mod operation;
 mod program;
 
 pub use arithmetic::{AluOp, DivOp, Test, alu, divide, test_holds};
+pub use codec::{WordFault, decode_word, encode_word};
 pub use formed_image::{are_apart, goes_to_counted, is_glue, writes_within};
 pub use formed_setting::{
     fits_channels, gives_words, initial_count, is_ring_size, port_of, takes_words, uses_port,

@@ -1,6 +1,6 @@
 //! The table of the instruction set.
 
-ghost use Rattle.std.specs.Prelude.{◌≡◌};
+ghost use Rattle.std.specs.Prelude.{◌≡◌, slice_get};
 ghost use Rattle.micro_isa.specs.Columns.{switching, ends};
 ghost use Rattle.micro_isa.specs.Table.{row_of, roles_of, named, coded};
 
@@ -49,7 +49,7 @@ pub struct Row {
     pub mnemonic: &'static [u8],
 }
 
-/// All operations, in the order of their opcodes.
+/// All operations, in the order of their opcodes, which are counted from 1.
 pub const OPERATIONS: [Operation; 26] = [
     Operation::Li,
     Operation::Mov,
@@ -170,8 +170,17 @@ pub fn operation_named(word: &[u8]) -> Option<Operation>
 pub fn operation_coded(opcode: u8) -> Option<Operation>
     ensures { result ≡ coded opcode }
 {
-    OPERATIONS
-        .iter()
-        .copied()
-        .find(|operation| row_of(*operation).opcode == opcode)
+    match opcode {
+        0 => None,
+        _ => operation_at(&OPERATIONS, usize::from(opcode - 1)),
+    }
+}
+
+fn operation_at(operations: &[Operation], place: usize) -> Option<Operation>
+    ensures { result ≡ slice_get operations.now place }
+{
+    match operations.get(place) {
+        Some(operation) => Some(*operation),
+        None => None,
+    }
 }
