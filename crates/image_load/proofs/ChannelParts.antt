@@ -10,7 +10,8 @@ use Rattle.byteorder.specs.Numbers.{little_number-reads_back}
 use Rattle.micro_isa.specs.declared.program.Channel.{Channel}
 use Rattle.micro_isa.specs.declared.program.Channel.TheVariants.{Inner, Input, Output}
 use Rattle.micro_isa.specs.Formed.{all_below, is_distinct, port_of, initial_count, has_formed_ring, is_ring_size}
-use Rattle.word_bytes.proofs.Words.{bytes_back_2, bytes_back_4}
+use Rattle.micro_isa.proofs.Words.{bytes_back_2, bytes_back_4}
+use Rattle.micro_isa.specs.declared.limits.TheConstants.{MOST_INITIAL_WORDS, MOST_PORTS}
 use Rattle.image_load.specs.declared.fault.ImageKind.TheVariants.{Short}
 use Rattle.image_load.specs.declared.fault.At.{At}
 use Rattle.image_load.specs.declared.channels.Part.{Part}
@@ -71,7 +72,7 @@ port_some n p e =
     ]
     in go (nat_eq n 255) e
 
-port_low : (p : ℕ) → p < 16 → port_in p ≡ Some p
+port_low : (p : ℕ) → p < MOST_PORTS → port_in p ≡ Some p
 port_low p lt =
     let other : nat_eq p 255 ≡ false = false_from_ne_true (nat_eq p 255) (λ same. let e = eqb-true p 255 same in omega arith) in
     ap (λ b. if b then None else Some p) other
@@ -155,7 +156,7 @@ record Unmade (c : Channel) (p : Part) : Type 0 where
 ring_is : (n : ℕ) → is_ring_size n ≡ true → (true && not (is_ring_size n)) ≡ false
 ring_is n e = ap not e
 
-unmade : (c : Channel) → ((p : ℕ) → port_of c ≡ Some p → p < 16) → has_formed_ring c ≡ true → Unmade c (part_of c)
+unmade : (c : Channel) → ((p : ℕ) → port_of c ≡ Some p → p < MOST_PORTS) → has_formed_ring c ≡ true → Unmade c (part_of c)
 unmade (Inner capacity) low ring = record { port = refl; fits = refl; ring = ring_is capacity ring; count = refl; counted = refl; again = refl; capacity = small_ring capacity ring }
 unmade (Input words None) low ring = record { port = refl; fits = refl; ring = refl; count = refl; counted = refl; again = refl; capacity = omega arith }
 unmade (Input words (Some port)) low ring = record { port = port_low port.number (low port.number refl); fits = refl; ring = ring_is port.capacity ring; count = refl; counted = refl; again = refl; capacity = small_ring port.capacity ring }
@@ -167,12 +168,12 @@ pub record IsSound (chs : List Channel) : Type 0 where
   pub rings : list_all has_formed_ring chs ≡ true
   pub ports : all_below 16 (filter_map port_of chs) ≡ true
   pub distinct : is_distinct nat_eq (filter_map port_of chs) ≡ true
-  pub words : sum (map initial_count chs) ≤ 65536
+  pub words : sum (map initial_count chs) ≤ MOST_INITIAL_WORDS
 
 pub sound_none : IsSound []
 sound_none = record { rings = refl; ports = refl; distinct = refl; words = omega arith }
 
-sound_more : (before : List Channel) (c : Channel) → IsSound before → has_formed_ring c ≡ true → is_free before (port_of c) ≡ true → sum (map initial_count before) + initial_count c ≤ 65536 → IsSound (before ++ c ∷ [])
+sound_more : (before : List Channel) (c : Channel) → IsSound before → has_formed_ring c ≡ true → is_free before (port_of c) ≡ true → sum (map initial_count before) + initial_count c ≤ MOST_INITIAL_WORDS → IsSound (before ++ c ∷ [])
 sound_more before c s ring free few =
     let ports = ports_snoc before c (port_of c) refl free s.ports s.distinct in
     let counts = ap sum (map-append initial_count before (c ∷ [])) ∙ sum_front (map initial_count before) (initial_count c) [] in record {
@@ -192,7 +193,7 @@ filled_takes size place before p bytes x s is tests e =
     let len : length words ≡ p.count = ap length t.all ∙ t.count in
     let met = none_met (part_tests place before p) tests in
     let both = and_parts (is_free before (port_in p.port)) (fits_kind p.kind (port_in p.port) (nat_eq p.capacity 0) (nat_eq p.count 0)) (not_false _ met.0) in
-    let few : sum (map initial_count before) + p.count ≤ 65536 = ltb-false 65536 (sum (map initial_count before) + p.count) met.1.1.0 in
+    let few : sum (map initial_count before) + p.count ≤ MOST_INITIAL_WORDS = ltb-false MOST_INITIAL_WORDS (sum (map initial_count before) + p.count) met.1.1.0 in
     let c = channel_of p.kind (port_in p.port) p.capacity words in
     let m : Made p (port_in p.port) words c = made p.kind p.port p.capacity p.count (port_in p.port) words refl both.1 met.1.0 len in
     let same : initial_words c ≡ t.added = m.initial ∙ t.all in
@@ -219,15 +220,15 @@ channel_takes size before bytes x s is e =
 pub record IsNext (before : List Channel) (c : Channel) : Type 0 where
   pub ring : has_formed_ring c ≡ true
   pub free : is_free before (port_of c) ≡ true
-  pub few : sum (map initial_count before) + initial_count c ≤ 65536
+  pub few : sum (map initial_count before) + initial_count c ≤ MOST_INITIAL_WORDS
   pub small : FitsChannel c
 
-low_port : (before : List Channel) (o : Option ℕ) → is_free before o ≡ true → (p : ℕ) → o ≡ Some p → p < 16
+low_port : (before : List Channel) (o : Option ℕ) → is_free before o ≡ true → (p : ℕ) → o ≡ Some p → p < MOST_PORTS
 low_port before None free p e = absurd (cc)
 low_port before (Some q) free p e =
-    let both = and_parts (nat_lt q 16) (not (list_any (nat_eq q) (filter_map port_of before))) free in
+    let both = and_parts (nat_lt q MOST_PORTS) (not (list_any (nat_eq q) (filter_map port_of before))) free in
     let same : q ≡ p = cc in
-    subst (λ n. n < 16) same (ltb-true q 16 both.0)
+    subst (λ n. n < MOST_PORTS) same (ltb-true q MOST_PORTS both.0)
 
 filled_again : (size : ℕ) (c : Channel) (rest : List ℕ) → FitsChannel c → Unmade c (part_of c) → filled_at size (part_of c) (flat_map number_bytes (initial_words c) ++ rest) ≡ Ok (c, rest)
 unfolding filled_at
@@ -257,7 +258,7 @@ channel_again size before c rest n =
     let fits : fits_kind p.kind (port_in p.port) (nat_eq p.capacity 0) (nat_eq p.count 0) ≡ true = ap (λ o. fits_kind p.kind o (nat_eq p.capacity 0) (nat_eq p.count 0)) u.port ∙ u.fits in
     let first = ap not (and_from (is_free before (port_in p.port)) (fits_kind p.kind (port_in p.port) (nat_eq p.capacity 0) (nat_eq p.count 0)) free fits) in
     let second : (has_ring p.kind (port_in p.port) && not (is_ring_size p.capacity)) ≡ false = ap (λ o. has_ring p.kind o && not (is_ring_size p.capacity)) u.port ∙ u.ring in
-    let third : nat_lt 65536 (sum (map initial_count before) + p.count) ≡ false = le-ltb _ _ (omega (arith, few, counted)) in
+    let third : nat_lt MOST_INITIAL_WORDS (sum (map initial_count before) + p.count) ≡ false = le-ltb _ _ (omega (arith, few, counted)) in
     let tests = met_none (part_tests place before p) (first, (second, (third, tt))) in
     ap (λ b. if b then Err (fault_at size Short) else unless (first_of (part_tests place before (part_in bytes))) (filled_at size (part_in bytes) behind)) long
     ∙ ap (λ q. unless (first_of (part_tests place before q)) (filled_at size q behind)) same

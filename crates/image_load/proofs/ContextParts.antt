@@ -11,10 +11,11 @@ use Rattle.micro_isa.specs.declared.image.Word.{Word}
 use Rattle.micro_isa.specs.declared.image.Range.{Range}
 use Rattle.micro_isa.specs.declared.image.Code.{Code}
 use Rattle.micro_isa.specs.Formed.{are_apart, all_apart}
-use Rattle.word_bytes.specs.declared.codec.WordFault.{WordFault}
-use Rattle.word_bytes.specs.declared.codec.WordFault.TheVariants as refused
-use Rattle.word_bytes.specs.WordBytes.{word_bytes, word_in, FitsWord}
-use Rattle.word_bytes.proofs.Words.{bytes_back_2, bytes_back_4, word_again, word_spelled}
+use Rattle.micro_isa.specs.declared.codec.WordFault.{WordFault}
+use Rattle.micro_isa.specs.declared.codec.WordFault.TheVariants as refused
+use Rattle.micro_isa.specs.WordBytes.{word_bytes, word_in, FitsWord}
+use Rattle.micro_isa.proofs.Words.{bytes_back_2, bytes_back_4, word_again, word_spelled}
+use Rattle.micro_isa.specs.declared.limits.TheConstants.{MOST_FILE, MOST_WORDS}
 use Rattle.image_load.specs.declared.fault.ImageKind.TheVariants.{Short}
 use Rattle.image_load.specs.declared.fault.At.{At}
 use Rattle.image_load.specs.declared.header.Header.{Header}
@@ -131,7 +132,7 @@ context_takes size h before bytes x were is e =
     let u = unless_ok tests (coded_at size private count (drop 8 bytes)) x g.1 in
     let met = none_met (context_tests place h before bytes) u.0 in
     let apart = and_parts (nat_le (private.start + private.size) h.file) (list_all (λ other. are_apart other private) (ranges_of h.shared before)) (not_false _ met.0) in
-    let counted = not_outside 1 1564672 count met.1.0 in
+    let counted = not_outside 1 MOST_WORDS count met.1.0 in
     let f = coded_takes size private count (drop 8 bytes) x (bytes_drop 8 bytes is) u.1 in
     let parts : bytes ≡ code_bytes x.0 ++ x.1 =
     range_back bytes is (ltb-false (length bytes) 8 g.0)
@@ -141,7 +142,7 @@ context_takes size h before bytes x were is e =
     let len = f.3 in
     let sized : IsSized h.file x.0 = record {
       some = subst (λ n. 1 ≤ n) (sym len) counted.0;
-      few = subst (λ n. n ≤ 1564672) (sym len) counted.1;
+      few = subst (λ n. n ≤ MOST_WORDS) (sym len) counted.1;
       within = subst (λ (r : Range). r.start + r.size ≤ h.file) (sym f.2) (leb-true (private.start + private.size) h.file apart.0);
       fits = f.4;
     } in
@@ -151,7 +152,7 @@ context_takes size h before bytes x were is e =
 pub record IsNextCode (h : Header) (before : List Code) (code : Code) : Type 0 where
   pub apart : list_all (λ other. are_apart other code.private) (ranges_of h.shared before) ≡ true
   pub sized : IsSized h.file code
-  pub small : h.file ≤ 128
+  pub small : h.file ≤ MOST_FILE
 
 coded_again : (size : ℕ) (code : Code) (rest : List ℕ) → AllByRecursion FitsWord code.words → coded_at size code.private (length code.words) (flat_map word_bytes code.words ++ rest) ≡ Ok (code, rest)
 unfolding coded_at
@@ -173,7 +174,7 @@ context_again size h before code rest n =
     let range : range_in bytes ≡ code.private = range_again code.private (little_bytes 4 count ++ behind) (omega (arith, within, small)) (omega (arith, within, small)) in
     let number : little_number 4 (drop 4 bytes) ≡ count = little_number-reads_back 4 count behind (omega (arith, few)) in
     let first = ap not (ap (is_apart h.file (ranges_of h.shared before)) range ∙ and_from (nat_le (code.private.start + code.private.size) h.file) (list_all (λ other. are_apart other code.private) (ranges_of h.shared before)) (le-leb _ _ within) n.apart) in
-    let second = ap (outside 1 1564672) number ∙ is_inside 1 1564672 count n.sized.some few in
+    let second = ap (outside 1 MOST_WORDS) number ∙ is_inside 1 MOST_WORDS count n.sized.some few in
     let tests = met_none (context_tests place h before bytes) (first, (second, tt)) in
     ap (λ b. if b then Err (fault_at size Short) else unless (first_of (context_tests place h before bytes)) (coded_at size (range_in bytes) (little_number 4 (drop 4 bytes)) behind)) long
     ∙ ap (λ o. unless o (coded_at size (range_in bytes) (little_number 4 (drop 4 bytes)) behind)) tests
@@ -182,7 +183,7 @@ context_again size h before code rest n =
     ∙ coded_again size code rest n.sized.fits
 
 -- contexts whose ranges are apart follow one another so
-pub code_in : (h : Header) → h.file ≤ 128 → (before : List Code) (code : Code) (codes : List Code) → AreApart h (before ++ code ∷ codes) × AllByRecursion (IsSized h.file) (before ++ code ∷ codes) → IsNextCode h before code
+pub code_in : (h : Header) → h.file ≤ MOST_FILE → (before : List Code) (code : Code) (codes : List Code) → AreApart h (before ++ code ∷ codes) × AllByRecursion (IsSized h.file) (before ++ code ∷ codes) → IsNextCode h before code
 code_in h small before code codes all =
     let apart : all_apart (ranges_of h.shared before ++ code.private ∷ map (λ c. c.private) codes) ≡ true = sym (ap (λ rs. all_apart (h.shared ∷ rs)) (map-append (λ (c : Code). c.private) before (code ∷ codes))) ∙ all.0 in record {
       apart = apart_front (ranges_of h.shared before) code.private (map (λ c. c.private) codes) apart;

@@ -8,6 +8,7 @@ use Rattle.micro_isa.specs.declared.program.Channel.TheVariants.{Inner, Input, O
 use Rattle.micro_isa.specs.declared.program.Setting.{Setting}
 use Rattle.micro_isa.specs.declared.image.Image.{Image}
 use Rattle.micro_isa.specs.Formed.{Each, has_formed_ring, initial_count, is_ring_size, IsFormedSetting, IsFormedImage}
+use Rattle.micro_isa.specs.declared.limits.TheConstants.{MOST_INITIAL_WORDS}
 use Rattle.image_load.specs.Writing.{IsSmallPart, IsSmallCode}
 use Rattle.image_load.proofs.Apart.{sum_cons}
 
@@ -24,7 +25,7 @@ each_below (d ∷ ds) (suc i) c e = omega (arith, each_below ds i c e, sum_cons 
 pub small_ring : (n : ℕ) → is_ring_size n ≡ true → n < 65536
 small_ring n e = let le = leb-true n 1024 (and_parts (nat_le 1 n) (nat_le n 1024) e).1 in omega (arith, le)
 
-small_part : (c : Channel) → has_formed_ring c ≡ true → initial_count c ≤ 65536 → IsSmallPart c
+small_part : (c : Channel) → has_formed_ring c ≡ true → initial_count c ≤ MOST_INITIAL_WORDS → IsSmallPart c
 small_part (Inner capacity) ring few = record { capacity = small_ring capacity ring; count = omega arith }
 small_part (Input words None) ring few = record { capacity = omega arith; count = few }
 small_part (Input words (Some port)) ring few = record { capacity = small_ring port.capacity ring; count = few }

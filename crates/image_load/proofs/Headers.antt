@@ -6,6 +6,7 @@ use Rattle.std.proofs.lemmas.List.{drop-drop, length-drop}
 use Rattle.byteorder.specs.Endian.{little_bytes, little_number}
 use Rattle.byteorder.specs.Numbers.{little_number-reads_back}
 use Rattle.micro_isa.specs.declared.image.Range.{Range}
+use Rattle.micro_isa.specs.declared.limits.TheConstants.{MOST_CONTEXTS, MOST_FILE, MOST_CHANNELS, MOST_MEMORY}
 use Rattle.image_load.specs.declared.fault.ImageKind.{ImageKind}
 use Rattle.image_load.specs.declared.fault.ImageKind.TheVariants as wrong
 use Rattle.image_load.specs.declared.header.Header.{Header}
@@ -28,11 +29,11 @@ spelt h =
 
 pub record IsWithin (h : Header) : Type 0 where
   pub some : 1 ≤ h.contexts
-  pub few : h.contexts ≤ 8
+  pub few : h.contexts ≤ MOST_CONTEXTS
   pub file : 1 ≤ h.file
-  pub small : h.file ≤ 128
-  pub channels : h.channels ≤ 16
-  pub memory : h.memory ≤ 65536
+  pub small : h.file ≤ MOST_FILE
+  pub channels : h.channels ≤ MOST_CHANNELS
+  pub memory : h.memory ≤ MOST_MEMORY
   pub shared : h.shared.start + h.shared.size ≤ h.file
 
 field_2 : (place next : ℕ) (bytes : List ℕ) → IsBytes bytes → place + 2 ≡ next → next ≤ length bytes → drop place bytes ≡ little_bytes 2 (little_number 2 (drop place bytes)) ++ drop next bytes
@@ -59,18 +60,18 @@ unfolding header_fault
 header_takes bytes is e =
     let e0 = none_else (first_of (field_tests bytes 0 4 wrong.Magic magic magic)) _ e in
     let e4 = none_else (first_of (field_tests bytes 4 2 wrong.Version 1 1)) _ e0.1 in
-    let e6 = none_else (first_of (field_tests bytes 6 2 wrong.Count 1 8)) _ e4.1 in
-    let e8 = none_else (first_of (field_tests bytes 8 2 wrong.Count 1 128)) _ e6.1 in
-    let e10 = none_else (first_of (field_tests bytes 10 2 wrong.Count 0 16)) _ e8.1 in
-    let e12 = none_else (first_of (field_tests bytes 12 4 wrong.Count 0 65536)) _ e10.1 in
+    let e6 = none_else (first_of (field_tests bytes 6 2 wrong.Count 1 MOST_CONTEXTS)) _ e4.1 in
+    let e8 = none_else (first_of (field_tests bytes 8 2 wrong.Count 1 MOST_FILE)) _ e6.1 in
+    let e10 = none_else (first_of (field_tests bytes 10 2 wrong.Count 0 MOST_CHANNELS)) _ e8.1 in
+    let e12 = none_else (first_of (field_tests bytes 12 4 wrong.Count 0 MOST_MEMORY)) _ e10.1 in
     let shared = none_met (shared_tests bytes) e12.1 in
     let long : 20 ≤ length bytes = ltb-false (length bytes) 20 shared.0 in
     let is_magic = field_from bytes 0 4 wrong.Magic magic magic e0.0 in
     let is_version = field_from bytes 4 2 wrong.Version 1 1 e4.0 in
-    let contexts = field_from bytes 6 2 wrong.Count 1 8 e6.0 in
-    let file = field_from bytes 8 2 wrong.Count 1 128 e8.0 in
-    let channels = field_from bytes 10 2 wrong.Count 0 16 e10.0 in
-    let memory = field_from bytes 12 4 wrong.Count 0 65536 e12.0 in
+    let contexts = field_from bytes 6 2 wrong.Count 1 MOST_CONTEXTS e6.0 in
+    let file = field_from bytes 8 2 wrong.Count 1 MOST_FILE e8.0 in
+    let channels = field_from bytes 10 2 wrong.Count 0 MOST_CHANNELS e10.0 in
+    let memory = field_from bytes 12 4 wrong.Count 0 MOST_MEMORY e12.0 in
     let h = header_in bytes in
     let magic_is : little_number 4 bytes ≡ magic = omega (arith, is_magic.0, is_magic.1) in
     let version_is : little_number 2 (drop 4 bytes) ≡ 1 = omega (arith, is_version.0, is_version.1) in
@@ -142,8 +143,8 @@ header_again h rest w =
     let none =
     else_none _ _ (field_is bytes 0 4 wrong.Magic magic magic magic (omega (arith, long)) n0 (omega arith) (omega arith)) (
     else_none _ _ (field_is bytes 4 2 wrong.Version 1 1 1 (omega (arith, long)) n4 (omega arith) (omega arith)) (
-    else_none _ _ (field_is bytes 6 2 wrong.Count 1 8 h.contexts (omega (arith, long)) n6 some few) (
-    else_none _ _ (field_is bytes 8 2 wrong.Count 1 128 h.file (omega (arith, long)) n8 file small) (
-    else_none _ _ (field_is bytes 10 2 wrong.Count 0 16 h.channels (omega (arith, long)) n10 (omega arith) channels) (
-    else_none _ _ (field_is bytes 12 4 wrong.Count 0 65536 h.memory (omega (arith, long)) n12 (omega arith) memory) last))))) in
+    else_none _ _ (field_is bytes 6 2 wrong.Count 1 MOST_CONTEXTS h.contexts (omega (arith, long)) n6 some few) (
+    else_none _ _ (field_is bytes 8 2 wrong.Count 1 MOST_FILE h.file (omega (arith, long)) n8 file small) (
+    else_none _ _ (field_is bytes 10 2 wrong.Count 0 MOST_CHANNELS h.channels (omega (arith, long)) n10 (omega arith) channels) (
+    else_none _ _ (field_is bytes 12 4 wrong.Count 0 MOST_MEMORY h.memory (omega (arith, long)) n12 (omega arith) memory) last))))) in
     record { none = none; same = same }

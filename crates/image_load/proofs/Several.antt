@@ -5,7 +5,7 @@ use Rattle.std.specs.List.{flat_map, AllByRecursion}
 use Rattle.std.proofs.lemmas.List.{append-nil, get_or-drop}
 use Rattle.std.proofs.lemmas.List.Concat.{flat_map-cons}
 use Rattle.byteorder.specs.Endian.{little_bytes, little_number}
-use Rattle.word_bytes.proofs.Words.{bytes_back_2, bytes_back_4}
+use Rattle.micro_isa.proofs.Words.{bytes_back_2, bytes_back_4}
 use Rattle.image_load.specs.declared.fault.At.{At}
 use Rattle.image_load.specs.Faults.{first_of, or_else, unless, ◌>>=◌}
 use Rattle.image_load.specs.Loading.{many_at}

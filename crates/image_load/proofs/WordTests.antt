@@ -1,7 +1,7 @@
 -- The tests of the second pass are met by no word of a formed context, and of no other.
 use Rattle.std.proofs.Common.{◌≡◌, ◌≤◌, ◌+◌, ◌-◌, ◌*◌, ℕ, zero, suc, Bool, true, false, ◌&&◌, not, List, [], ◌∷◌, length, map, Some, None, refl, ap, ◌∙◌, subst, arith, if◌then◌else◌}
 use Rattle.std.specs.List.{AllByRecursion}
-use Rattle.word_bytes.specs.WordBytes.{FitsWord}
+use Rattle.micro_isa.specs.WordBytes.{FitsWord}
 use Rattle.std.specs.Prelude.{slice_get, nat_eq}
 use Rattle.std.proofs.lemmas.Bool.{and_parts, and_from, eqb-true, eq-eqb}
 use Rattle.micro_isa.specs.declared.image.Word.{Word}
@@ -9,6 +9,7 @@ use Rattle.micro_isa.specs.declared.image.Code.{Code}
 use Rattle.micro_isa.specs.declared.image.Image.{Image}
 use Rattle.micro_isa.specs.Columns.{written_by}
 use Rattle.micro_isa.specs.Formed.{Each, names_below, registers_in, target_of, never_falls, all_below, option_below, fits_channels, is_glue, goes_to_counted, glue_fits, writes_within, IsFormedCode}
+use Rattle.micro_isa.specs.declared.limits.TheConstants.{MOST_WORDS}
 use Rattle.image_load.specs.Faults.{first_of}
 use Rattle.image_load.specs.Loading.{word_tests, words_fault, codes_fault}
 use Rattle.image_load.proofs.Several.{not_false, none_met, met_none, none_else, else_none}
@@ -89,7 +90,7 @@ words_are m code (x ∷ xs) place i h =
 -- what the first pass knows of a context
 pub record IsSized (file : ℕ) (code : Code) : Type 0 where
   pub some : 1 ≤ length code.words
-  pub few : length code.words ≤ 1564672
+  pub few : length code.words ≤ MOST_WORDS
   pub within : code.private.start + code.private.size ≤ file
   pub fits : AllByRecursion FitsWord code.words
 

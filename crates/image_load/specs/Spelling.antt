@@ -9,7 +9,7 @@ use Rattle.micro_isa.specs.declared.image.Code.{Code}
 use Rattle.micro_isa.specs.declared.image.Image.{Image}
 use Rattle.micro_isa.specs.Formed.{IsFormedImage}
 use Rattle.image_load.specs.declared.channels.Part.{Part}
-use Rattle.word_bytes.specs.WordBytes.{word_bytes, FitsWord}
+use Rattle.micro_isa.specs.WordBytes.{word_bytes, FitsWord}
 
 -- the numbers at the head of a channel's part; the port 255 is none
 abbrev part : ℕ → ℕ → ℕ → ℕ → Part

@@ -6,7 +6,7 @@ ghost use Rattle.image_load.specs.Loading.{header_in, header_fault, field_tests,
 
 use crate::fault::{At, ImageKind, fault_at};
 use crate::field::{number_2, number_4, outside, range_in};
-use micro_isa::Range;
+use micro_isa::{LONGEST_IMAGE, MOST_CHANNELS, MOST_CONTEXTS, MOST_FILE, MOST_MEMORY, Range};
 
 /// `UREG`, the first four bytes of an image.
 pub(crate) const MAGIC: u32 = 1_195_725_397;
@@ -37,7 +37,7 @@ pub(crate) fn header_in(bytes: &[u8]) -> Header
 /// The first fault of the header, field by field.
 #[tactic(auto, unfolding(crate::specs::Loading::header_fault))]
 pub(crate) fn header_fault(bytes: &[u8]) -> Option<At>
-    requires short { length bytes.now ≤ 167772160 }
+    requires short { length bytes.now ≤ LONGEST_IMAGE }
     ensures first { result ≡ header_fault bytes.now }
     ensures long { result ≡ None → 20 ≤ length bytes.now }
 {
@@ -47,16 +47,16 @@ pub(crate) fn header_fault(bytes: &[u8]) -> Option<At>
     if let Some(found) = small_fault(bytes, 4, ImageKind::Version, 1, 1) {
         return Some(found);
     }
-    if let Some(found) = small_fault(bytes, 6, ImageKind::Count, 1, 8) {
+    if let Some(found) = small_fault(bytes, 6, ImageKind::Count, 1, MOST_CONTEXTS as u32) {
         return Some(found);
     }
-    if let Some(found) = small_fault(bytes, 8, ImageKind::Count, 1, 128) {
+    if let Some(found) = small_fault(bytes, 8, ImageKind::Count, 1, MOST_FILE) {
         return Some(found);
     }
-    if let Some(found) = small_fault(bytes, 10, ImageKind::Count, 0, 16) {
+    if let Some(found) = small_fault(bytes, 10, ImageKind::Count, 0, MOST_CHANNELS as u32) {
         return Some(found);
     }
-    if let Some(found) = wide_fault(bytes, 12, ImageKind::Count, 0, 65_536) {
+    if let Some(found) = wide_fault(bytes, 12, ImageKind::Count, 0, MOST_MEMORY) {
         return Some(found);
     }
     shared_fault(bytes)
@@ -64,7 +64,7 @@ pub(crate) fn header_fault(bytes: &[u8]) -> Option<At>
 
 /// The fault of a field of two bytes, whose number is to be from `least` to `most`.
 fn small_fault(bytes: &[u8], place: usize, kind: ImageKind, least: u32, most: u32) -> Option<At>
-    requires short { length bytes.now ≤ 167772160 }
+    requires short { length bytes.now ≤ LONGEST_IMAGE }
     requires front { place ≤ 20 }
     ensures { result ≡ first_of (field_tests bytes.now place 2 kind least most) }
 {
@@ -79,7 +79,7 @@ fn small_fault(bytes: &[u8], place: usize, kind: ImageKind, least: u32, most: u3
 
 /// The same of a field of four bytes.
 fn wide_fault(bytes: &[u8], place: usize, kind: ImageKind, least: u32, most: u32) -> Option<At>
-    requires short { length bytes.now ≤ 167772160 }
+    requires short { length bytes.now ≤ LONGEST_IMAGE }
     requires front { place ≤ 20 }
     ensures { result ≡ first_of (field_tests bytes.now place 4 kind least most) }
 {
@@ -94,7 +94,7 @@ fn wide_fault(bytes: &[u8], place: usize, kind: ImageKind, least: u32, most: u32
 
 /// The fault of the shared range.
 fn shared_fault(bytes: &[u8]) -> Option<At>
-    requires short { length bytes.now ≤ 167772160 }
+    requires short { length bytes.now ≤ LONGEST_IMAGE }
     ensures first { result ≡ first_of (shared_tests bytes.now) }
     ensures long { result ≡ None → 20 ≤ length bytes.now }
 {

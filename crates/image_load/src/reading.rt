@@ -12,13 +12,13 @@ use crate::fault::{ImageFault, ImageKind, fault_at, told};
 use crate::field::behind;
 use crate::header::{header_fault, header_in};
 use crate::second_pass::codes_fault;
-use micro_isa::{Image, Setting};
+use micro_isa::{Image, LONGEST_IMAGE, Setting};
 use std::alloc::Global;
 
 /// What the first pass reads, and where the contexts begin.
 #[tactic(auto, unfolding(crate::specs::Loading::front_at))]
 fn front_at(alloc: Global, bytes: &[u8]) -> Result<(Image, usize), ImageFault>
-    requires short { length bytes.now ≤ 167772160 }
+    requires short { length bytes.now ≤ LONGEST_IMAGE }
     ensures { Gives (λ x. (x.0, x.1)) result (front_at bytes.now) }
 {
     let size = bytes.len();
@@ -56,7 +56,7 @@ fn front_at(alloc: Global, bytes: &[u8]) -> Result<(Image, usize), ImageFault>
 /// Both passes.
 #[tactic(auto, unfolding(crate::specs::Loading::image_read))]
 fn read(alloc: Global, bytes: &[u8]) -> Result<Image, ImageFault>
-    requires short { length bytes.now ≤ 167772160 }
+    requires short { length bytes.now ≤ LONGEST_IMAGE }
     ensures { Gives (λ m. m) result (image_read bytes.now) }
 {
     match front_at(alloc, bytes) {
@@ -70,7 +70,7 @@ fn read(alloc: Global, bytes: &[u8]) -> Result<Image, ImageFault>
 
 /// The image that bytes spell, of at most 167,772,160, or their first fault in the order of `docs/FORMATS.md`.
 pub fn read_image(alloc: Global, bytes: &[u8]) -> Result<Image, ImageFault>
-    requires short { length bytes.now ≤ 167772160 }
+    requires short { length bytes.now ≤ LONGEST_IMAGE }
     ensures spelled { IfOk result (Spells bytes.now) }
     ensures alone { IfOk result (SpellsAlone bytes.now) }
     // The fault is the first one, in the order of the two passes.

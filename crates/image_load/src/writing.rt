@@ -4,16 +4,18 @@ ghost use Rattle.std.specs.Prelude.{◌≡◌, ◌≤◌, ◌<◌, ◌^◌, ◌+
 ghost use Rattle.std.specs.List.{flat_map, AllByRecursion};
 ghost use Rattle.byteorder.specs.Endian.{little_bytes};
 ghost use Rattle.micro_isa.specs.Formed.{IsFormedImage, Each};
-ghost use Rattle.word_bytes.specs.WordBytes.{word_bytes, FitsWord};
+ghost use Rattle.micro_isa.specs.WordBytes.{word_bytes, FitsWord};
 ghost use Rattle.image_load.specs.Spelling.{part_of, part_bytes, initial_words, number_bytes, channel_bytes, range_bytes, code_bytes, header_bytes, FitsChannel, FitsCode, Spells};
 ghost use Rattle.image_load.specs.Writing.{IsSmallPart, IsSmallCode};
 
 use crate::channels::Part;
 use crate::header::MAGIC;
 use byteorder::{ByteOrder, LittleEndian};
-use micro_isa::{Channel, Code, Image, NoMemory, Range, Word};
+use micro_isa::{
+    Channel, Code, Image, MOST_CHANNELS, MOST_CONTEXTS, MOST_FILE, NoMemory, Range, Word,
+    encode_word,
+};
 use std::alloc::Global;
-use word_bytes::encode_word;
 
 fn put(out: &mut Vec<u8>, bytes: &[u8]) -> Result<(), NoMemory>
     ensures { OnOk result (out.new.items ≡ out.old.items ++ bytes.now) }
@@ -75,11 +77,11 @@ fn size_of(image: &Image) -> usize {
 }
 
 fn put_header(out: &mut Vec<u8>, image: &Image) -> Result<(), NoMemory>
-    requires contexts { length image.now.contexts ≤ 8 }
-    requires channels { length image.now.setting.channels ≤ 16 }
-    requires file { image.now.file ≤ 128 }
-    requires start { image.now.shared.start ≤ 128 }
-    requires size { image.now.shared.size ≤ 128 }
+    requires contexts { length image.now.contexts ≤ MOST_CONTEXTS }
+    requires channels { length image.now.setting.channels ≤ MOST_CHANNELS }
+    requires file { image.now.file ≤ MOST_FILE }
+    requires start { image.now.shared.start ≤ MOST_FILE }
+    requires size { image.now.shared.size ≤ MOST_FILE }
     ensures { OnOk result (out.new.items ≡ out.old.items ++ header_bytes image.now) }
 {
     put_4(out, MAGIC)?;
