@@ -1,1 +1,5 @@
+pub mod Orders
 pub mod Fitting
+pub mod Costs
+pub mod Best
+pub mod Choices
