@@ -3,3 +3,4 @@ mod Appearing
 mod Deciding
 pub mod Laws
 pub mod Words
+pub mod Pieced

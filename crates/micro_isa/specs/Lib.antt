@@ -6,3 +6,4 @@ pub mod FormedTests
 pub mod Table
 pub mod Operands
 pub mod WordBytes
+pub mod Pieces

@@ -2,3 +2,4 @@ pub mod Simulation
 pub mod Stretching
 pub mod Waiting
 pub mod Histories
+pub mod Settling

@@ -1,0 +1,4 @@
+pub mod Edges
+pub mod Words
+pub mod Located
+pub mod Emitted
