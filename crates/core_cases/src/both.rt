@@ -86,6 +86,7 @@ fn engine_event(engine: &mut Engine, event: Event) -> Answer {
     }
 }
 
+#[tactic(auto, using(semantics::proofs::Ports::legal_feed, semantics::proofs::Ports::legal_unplug))]
 fn happen(engine: &mut Engine, event: Event) -> Seen
     requires { illegal_of engine.old.core event ≡ None }
 {

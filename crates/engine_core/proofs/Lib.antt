@@ -4,3 +4,4 @@ pub mod Confined
 pub mod SegmentLemmas
 pub mod MayRun
 pub mod Elsewhere
+pub mod Ports

@@ -1,10 +1,10 @@
-ghost use Rattle.std.specs.Prelude.{◌≡◌, ◌+◌, ◌≤◌, ℕ, IfOk, None, replicate};
+ghost use Rattle.std.specs.Prelude.{◌≡◌, ◌≤◌, ℕ, IfOk, None, Some, false, replicate, true};
 ghost use Rattle.micro_isa.specs.Formed.{IsFormedImage};
-ghost use Rattle.world.specs.WorldState.{can_feed};
+ghost use Rattle.world.specs.WorldState.{can_feed, is_plugged};
 ghost use Rattle.world.specs.declared.event.Event.TheVariants.{Run as RunOf, Feed as FeedOf, Unplug as UnplugOf};
 ghost use Rattle.world.specs.declared.event.Seen.TheVariants.{Ran as RanOf, Fed as FedOf, Unplugged as UnpluggedOf};
-ghost use Rattle.semantics.specs.Core.{illegal_of, shown_core, steps_left};
-ghost use Rattle.semantics.specs.Events.{fire};
+ghost use Rattle.semantics.specs.Core.{illegal_of, shown_core, some_runnable};
+ghost use Rattle.semantics.specs.Events.{fire, step};
 ghost use Rattle.semantics.specs.Stretches.{received};
 ghost use Rattle.semantics.specs.Machine.{Machine, machine_kind, machine_semantics, machine_open, words_of};
 ghost use Rattle.engine_core.specs.EngineState.{config_of, IsSound, LeavesOthers};
@@ -17,7 +17,7 @@ use micro_isa::{Image, NoMemory, PReg, Word};
 use run_state::{Interpreter, RunCore};
 use std::alloc::Global;
 use std::marker::Model;
-use world::{End, Event, Illegal, Output, Segment, View};
+use world::{End, Event, Illegal, Segment, View};
 
 /// A run of an image. Opening it takes all the memory that it will need; only `view` takes more.
 #[derive(Drop)]
@@ -80,39 +80,34 @@ impl Engine {
         self.file.as_slice()
     }
 
+    /// The image that is run.
     pub fn image(&self) -> &Image
         ensures { result.now ≡ self.now.image }
     {
         &self.image
     }
 
-    /// The words that were put out, in order.
-    pub fn outputs(&self) -> &[Output]
-        ensures { result.now ≡ self.now.core.world.outputs }
+    /// Whether some context can go on.
+    pub fn some_runnable(&self) -> bool
+        ensures { result ≡ some_runnable self.now.core }
     {
-        self.core.outputs()
+        self.core.some_runnable()
     }
 
-    /// The steps that are left.
-    pub fn steps_left(&self) -> u32
-        ensures left { result ≡ steps_left self.now.core }
-        ensures fits { self.now.core.steps + result ≡ self.now.core.world.bound }
-    {
-        self.core.steps_left()
-    }
-
-    /// Whether a word can be fed to a channel.
+    /// Whether a word can be fed to a channel: it is a plugged input whose ring has room.
     pub fn can_feed(&self, channel: u8) -> bool
         ensures { result ≡ can_feed self.now.core.world channel }
     {
         self.core.can_feed(channel)
     }
 
-    /// Feeds a word to an input.
+    /// Feeds a word to an input, where the bound did not end the run.
+    #[tactic(auto, using(crate::proofs::Ports::feeds))]
     pub fn feed(&mut self, channel: u8, word: u32)
-        requires legal { illegal_of self.old.core (FeedOf channel word) ≡ None }
+        requires feeds { can_feed self.old.core.world channel ≡ true }
+        requires goes { self.old.core.over ≡ false }
         ensures image { self.new.image ≡ self.old.image }
-        ensures fire { fire (machine_semantics self.old.image) (config_of self.old) (FeedOf channel word) ≡ (config_of self.new, FedOf) }
+        ensures step { step (machine_semantics self.old.image) (config_of self.old) (FeedOf channel word) ≡ Some (config_of self.new, FedOf) }
     {
         self.core.feed(channel, word);
     }
@@ -157,10 +152,12 @@ impl Interpreter for Engine {
         self.core.plugged(channel)
     }
 
+    #[tactic(auto, using(crate::proofs::Ports::unplugs))]
     fn unplug(&mut self, channel: u8)
-        requires legal { illegal_of self.old.core (UnplugOf channel) ≡ None }
+        requires plugged { is_plugged self.old.core.world channel ≡ true }
+        requires goes { self.old.core.over ≡ false }
         ensures image { self.new.image ≡ self.old.image }
-        ensures fire { fire (machine_semantics self.old.image) (config_of self.old) (UnplugOf channel) ≡ (config_of self.new, UnpluggedOf) }
+        ensures step { step (machine_semantics self.old.image) (config_of self.old) (UnplugOf channel) ≡ Some (config_of self.new, UnpluggedOf) }
     {
         self.core.unplug(channel);
     }

@@ -1,14 +1,10 @@
--- What an opening is: no segment was cut, and what is plugged has a port.
-use Rattle.std.proofs.Common.{◌≡◌, ℕ, zero, suc, ◌≤◌, List, [], ◌∷◌, map, length, true, Some, None, refl, sym, ap, subst}
-use Rattle.std.specs.Prelude.{slice_get}
+-- What an opening is: no segment was cut, and the channels are few.
+use Rattle.std.proofs.Common.{◌≡◌, ℕ, ◌≤◌, length, refl, sym, ap, subst}
 use Rattle.std.proofs.lemmas.List.{length-map}
-use Rattle.micro_isa.specs.declared.program.Channel.{Channel}
-use Rattle.micro_isa.specs.declared.program.Channel.TheVariants as channel
 use Rattle.micro_isa.specs.declared.program.Setting.{Setting}
 use Rattle.micro_isa.specs.declared.program.Bundle.{Bundle}
 use Rattle.micro_isa.specs.declared.image.Image.{Image}
 use Rattle.micro_isa.specs.Formed.{IsFormedSetting, IsFormedBundle, IsFormedImage}
-use Rattle.world.specs.WorldState.{holds_at}
 use Rattle.world.specs.Opening.{opened_channel}
 use Rattle.semantics.specs.Core.{opening_core}
 use Rattle.semantics.specs.Events.{Config}
@@ -16,24 +12,10 @@ use Rattle.semantics.specs.Machine.{Machine, machine_open}
 use Rattle.semantics.specs.Source.{Contexts, source_open}
 use Rattle.round_order.specs.Openings.{most_channels, IsOpening}
 
-ported_by : (ch : Channel) → (opened_channel ch).plugged ≡ true → (opened_channel ch).ported ≡ true
-ported_by (channel.Inner capacity) h = h
-ported_by (channel.Input words None) h = h
-ported_by (channel.Input words (Some port)) h = refl
-ported_by (channel.Output None) h = h
-ported_by (channel.Output (Some port)) h = refl
-
--- at the opening, what is plugged has a port
-all_ported : (chs : List Channel) (k : ℕ) → holds_at (λ ch. ch.plugged) (slice_get (map opened_channel chs) k) ≡ true → holds_at (λ ch. ch.ported) (slice_get (map opened_channel chs) k) ≡ true
-all_ported [] k h = absurd (cc)
-all_ported (ch ∷ chs) zero h = ported_by ch h
-all_ported (ch ∷ chs) (suc k) h = all_ported chs k h
-
 pub opening_is : (s : Setting) (contexts bound : ℕ) → IsFormedSetting s → IsOpening (opening_core s contexts bound)
 opening_is s contexts bound formed = record {
   goes = refl;
   few = subst (λ n. n ≤ most_channels) (sym (length-map s.channels opened_channel)) formed.few;
-  ports = all_ported s.channels;
 }
 
 -- the opening of a formed image

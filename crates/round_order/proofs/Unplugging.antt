@@ -9,29 +9,16 @@ use Rattle.world.specs.declared.event.Seen.TheVariants as seen
 use Rattle.world.specs.declared.event.Entry.{Entry}
 use Rattle.world.specs.declared.event.Entry.TheVariants.{Unplugged}
 use Rattle.world.specs.declared.event.End.{End}
-use Rattle.world.specs.declared.event.Illegal.TheVariants as illegal
-use Rattle.world.specs.Channels.{ChannelState, without_port, is_incoming}
+use Rattle.world.specs.Channels.{ChannelState, without_port, is_incoming, has_plugged_port}
 use Rattle.world.specs.WorldState.{WorldState, holds_at, is_plugged, changed_at, after_unplug, is_open_input, has_open_input}
-use Rattle.semantics.specs.Core.{Core, illegal_of, illegal_at_port}
-use Rattle.semantics.specs.Events.{Semantics, Config, fire, unless_illegal, step}
+use Rattle.semantics.specs.Core.{Core}
+use Rattle.semantics.specs.Events.{Semantics, Config, step}
 use Rattle.semantics.specs.Entries.{LeadsTo}
 use Rattle.semantics.specs.Rounds.{first_round, round_after, round_of, AsksInOrder, InRoundOrder}
-use Rattle.semantics.proofs.Histories.{leads_more, leads_run, order_more, round_of-append}
-use Rattle.round_order.specs.Openings.{is_ported, unplugs, unplugs_below, most_channels, IsOpening, IsUnplugged}
+use Rattle.semantics.proofs.Histories.{stepped, leads_more, leads_run, order_more, round_of-append}
+use Rattle.round_order.specs.Openings.{unplugs, unplugs_below, most_channels, IsOpening, IsUnplugged}
 use Rattle.round_order.specs.Journals.{UnpluggedBy, UnpluggedAt, IsOpened, IsJournalOn}
 use Rattle.round_order.specs.RoundRuns.{IsRoundRun}
-
-legal_by : (o : Option ChannelState) → holds_at (λ ch. ch.plugged) o ≡ true → holds_at (λ ch. ch.ported) o ≡ true → illegal_at_port (λ ch. ch.ported) (λ ch. None) o ≡ None
-legal_by None plugged ported = absurd (cc)
-legal_by (Some ch) plugged ported =
-    ap (λ b. if b then (if ch.plugged then None else Some illegal.Unplugged) else Some illegal.NoPort) ported
-    ∙ ap (λ b. if b then None else Some illegal.Unplugged) plugged
-
--- a port that is plugged can be unplugged
-pub unplug_is_legal : (core : Core) (k : ℕ) → core.over ≡ false → is_plugged core.world k ≡ true → is_ported core.world k ≡ true → illegal_of core (Unplug k) ≡ None
-unplug_is_legal core k goes plugged ported =
-    ap (λ b. if b then Some illegal.Over else illegal_at_port (λ ch. ch.ported) (λ ch. None) (slice_get core.world.channels k)) goes
-    ∙ legal_by (slice_get core.world.channels k) plugged ported
 
 -- the channels behind the first one
 under : (ch : ChannelState) (chs : List ChannelState) (k : ℕ) (o : Option ChannelState) → changed_at without_port (ch ∷ chs) (suc k) o ≡ ch ∷ changed_at without_port chs k o
@@ -49,36 +36,21 @@ other_stays test (ch ∷ chs) (suc k) zero ne = ap (λ l. holds_at test (slice_g
 other_stays test (ch ∷ chs) (suc k) (suc j) ne =
     ap (λ l. holds_at test (slice_get l (suc j))) (under ch chs k (slice_get chs k)) ∙ other_stays test chs k j (λ e. ne (ap suc e))
 
-plug_goes : (chs : List ChannelState) (k : ℕ) → holds_at (λ ch. ch.plugged) (slice_get (unplugged_in chs k) k) ≡ false
+plug_goes : (chs : List ChannelState) (k : ℕ) → holds_at has_plugged_port (slice_get (unplugged_in chs k) k) ≡ false
 plug_goes [] k = refl
 plug_goes (ch ∷ chs) zero = refl
-plug_goes (ch ∷ chs) (suc k) = ap (λ l. holds_at (λ x. x.plugged) (slice_get l (suc k))) (under ch chs k (slice_get chs k)) ∙ plug_goes chs k
-
-port_stays : (chs : List ChannelState) (k j : ℕ) → holds_at (λ ch. ch.ported) (slice_get (unplugged_in chs k) j) ≡ holds_at (λ ch. ch.ported) (slice_get chs j)
-port_stays [] k j = refl
-port_stays (ch ∷ chs) zero zero = refl
-port_stays (ch ∷ chs) zero (suc j) = refl
-port_stays (ch ∷ chs) (suc k) zero = ap (λ l. holds_at (λ x. x.ported) (slice_get l 0)) (under ch chs k (slice_get chs k))
-port_stays (ch ∷ chs) (suc k) (suc j) = ap (λ l. holds_at (λ x. x.ported) (slice_get l (suc j))) (under ch chs k (slice_get chs k)) ∙ port_stays chs k j
+plug_goes (ch ∷ chs) (suc k) = ap (λ l. holds_at has_plugged_port (slice_get l (suc k))) (under ch chs k (slice_get chs k)) ∙ plug_goes chs k
 
 length_stays : (chs : List ChannelState) (k : ℕ) → length (unplugged_in chs k) ≡ length chs
 length_stays [] k = refl
 length_stays (ch ∷ chs) zero = refl
 length_stays (ch ∷ chs) (suc k) = ap length (under ch chs k (slice_get chs k)) ∙ ap suc (length_stays chs k)
 
--- what is plugged after a port was unplugged was so before, and is another
-plugged_before : (w : WorldState) (k j : ℕ) → is_plugged (after_unplug w k) j ≡ true → (j ≢ k) × (is_plugged w j ≡ true)
-plugged_before w k j h = elim (cases_eq j k) [
-  | inl e ↦ (let gone : is_plugged (after_unplug w k) j ≡ false = ap (is_plugged (after_unplug w k)) e ∙ plug_goes w.channels k in absurd (cc))
-  | inr ne ↦ (ne, sym (other_stays (λ ch. ch.plugged) w.channels k j ne) ∙ h)
-]
-
 -- the opening itself
 pub at_start : (core : Core) → IsOpening core → IsUnplugged core.world 0 core
 at_start core opening = record {
   goes = opening.goes;
   few = opening.few;
-  ports = opening.ports;
   closed = λ j lt. absurd (omega (arith, lt));
   rest = λ j le. refl;
 }
@@ -88,12 +60,11 @@ one_more : (w : WorldState) (k : ℕ) (now after : Core) → IsUnplugged w k now
 one_more w k now after so is = subst (IsUnplugged w (suc k)) (sym is) (record {
   goes = so.goes;
   few = subst (λ n. n ≤ most_channels) (sym (length_stays now.world.channels k)) so.few;
-  ports = λ j h. port_stays now.world.channels k j ∙ so.ports j (plugged_before now.world k j h).1;
   closed = λ j lt. elim (cases_eq j k) [
     | inl e ↦ ap (is_plugged (after_unplug now.world k)) e ∙ plug_goes now.world.channels k
-    | inr ne ↦ other_stays (λ ch. ch.plugged) now.world.channels k j ne ∙ so.closed j (omega (arith, lt, ne))
+    | inr ne ↦ other_stays has_plugged_port now.world.channels k j ne ∙ so.closed j (omega (arith, lt, ne))
   ];
-  rest = λ j le. other_stays (λ ch. ch.plugged) now.world.channels k j (λ e. omega (arith, le, e)) ∙ so.rest j (omega (arith, le));
+  rest = λ j le. other_stays has_plugged_port now.world.channels k j (λ e. omega (arith, le, e)) ∙ so.rest j (omega (arith, le));
 })
 
 -- nothing was plugged there
@@ -101,7 +72,6 @@ none_there : (w : WorldState) (k : ℕ) (now : Core) → IsUnplugged w k now →
 none_there w k now so free = record {
   goes = so.goes;
   few = so.few;
-  ports = so.ports;
   closed = λ j lt. elim (cases_eq j k) [
     | inl e ↦ ap (is_plugged now.world) e ∙ free
     | inr ne ↦ so.closed j (omega (arith, lt, ne))
@@ -110,15 +80,15 @@ none_there w k now so free = record {
 }
 
 -- no word comes from outside where no port is plugged
-no_plug : (chs : List ChannelState) → ((j : ℕ) → holds_at (λ ch. ch.plugged) (slice_get chs j) ≡ false) → list_any is_open_input chs ≡ false
+no_plug : (chs : List ChannelState) → ((j : ℕ) → holds_at has_plugged_port (slice_get chs j) ≡ false) → list_any is_open_input chs ≡ false
 no_plug [] h = refl
-no_plug (ch ∷ chs) h = ap (λ b. b || list_any is_open_input chs) (none (is_incoming ch.kind) ch.plugged (h 0)) ∙ no_plug chs (λ j. h (suc j))
+no_plug (ch ∷ chs) h = ap (λ b. b || list_any is_open_input chs) (none (is_incoming ch.kind) (has_plugged_port ch) (h 0)) ∙ no_plug chs (λ j. h (suc j))
   where
     none : (a b : Bool) → b ≡ false → (a && b) ≡ false
     none true b e = e
     none false b e = refl
 
-past_all : (chs : List ChannelState) (n j : ℕ) → length chs ≤ n → n ≤ j → holds_at (λ ch. ch.plugged) (slice_get chs j) ≡ false
+past_all : (chs : List ChannelState) (n j : ℕ) → length chs ≤ n → n ≤ j → holds_at has_plugged_port (slice_get chs j) ≡ false
 past_all [] n j few le = refl
 past_all (ch ∷ chs) n zero few le = absurd (omega (arith, few, le))
 past_all (ch ∷ chs) n (suc j) few le = past_all chs j j (omega (arith, few, le)) (omega arith)
@@ -160,7 +130,7 @@ all_closed w now so = no_plug now.world.channels (λ j. elim (cases_lt j most_ch
   | inr le ↦ past_all now.world.channels most_channels j so.few le
 ])
 
-pub was_unplugged : {X : Type 0} (rules : Semantics X) (before after : Config X) (k : ℕ) (es es' : List Entry) → is_plugged before.core.world k ≡ true → fire rules before (Unplug k) ≡ (after, seen.Unplugged) → es' ≡ es ++ Unplugged k ∷ [] → UnpluggedAt rules before after k es es'
+pub was_unplugged : {X : Type 0} (rules : Semantics X) (before after : Config X) (k : ℕ) (es es' : List Entry) → is_plugged before.core.world k ≡ true → step rules before (Unplug k) ≡ Some (after, seen.Unplugged) → es' ≡ es ++ Unplugged k ∷ [] → UnpluggedAt rules before after k es es'
 was_unplugged rules before after k es es' plugged happened told =
     subst (λ b. UnpluggedBy b rules before after k es es') (sym plugged) (happened, told)
 
@@ -181,12 +151,10 @@ told_more w k b es told is =
 
 opened_by : {X : Type 0} (rules : Semantics X) (first before after : Config X) (k : ℕ) (es es' : List Entry) (b : Bool) → IsOpened rules first k before es → is_plugged before.core.world k ≡ b → UnpluggedBy b rules before after k es es' → IsOpened rules first (suc k) after es'
 opened_by {X} rules first before after k es es' true so plugged did =
-    let legal = unplug_is_legal before.core k so.unplugged.goes plugged (so.unplugged.ports k plugged) in
-    let goes : step rules before (Unplug k) ≡ Some (after, seen.Unplugged) =
-    ap (λ o. unless_illegal o (fire rules before (Unplug k))) legal ∙ ap Some did.0
+    let happened = stepped rules before after (Unplug k) seen.Unplugged did.0
     in record {
-      unplugged = one_more first.core.world k before.core after.core so.unplugged (sym (ap (λ p. p.0.core) did.0));
-      legal = subst (λ l. LeadsTo rules first l after) (sym did.1) (leads_more rules first before after es (Unplugged k) seen.Unplugged so.legal goes refl);
+      unplugged = one_more first.core.world k before.core after.core so.unplugged (sym (ap (λ p. p.0.core) happened));
+      legal = subst (λ l. LeadsTo rules first l after) (sym did.1) (leads_more rules first before after es (Unplugged k) seen.Unplugged so.legal did.0 refl);
       order = subst (λ l. InRoundOrder rules first first_round l) (sym did.1) (order_more rules first before first_round es (Unplugged k) so.legal so.order (subst (λ r. AsksInOrder r.pump k) (sym so.none) tt));
       told = did.1 ∙ told_more first.core.world k true es so.told (sym (so.unplugged.rest k (omega arith)) ∙ plugged);
       none = ap (round_of first_round) did.1 ∙ round_of-append first_round es (Unplugged k) ∙ ap (λ r. round_after r (Unplugged k)) so.none;

@@ -10,7 +10,7 @@ use Rattle.world.specs.declared.event.SegmentEnd.{SegmentEnd}
 use Rattle.world.specs.declared.event.End.{End}
 use Rattle.world.specs.WorldState.{has_open_input, is_plugged}
 use Rattle.semantics.specs.Core.{ending_of}
-use Rattle.semantics.specs.Events.{Semantics, Config, fire, step}
+use Rattle.semantics.specs.Events.{Semantics, Config, step}
 use Rattle.semantics.specs.Entries.{event_of, entry_seen, LeadsTo}
 use Rattle.semantics.specs.Rounds.{first_round, round_of, InRoundOrder}
 use Rattle.round_order.specs.Openings.{IsUnplugged, unplugs_below}
@@ -24,7 +24,7 @@ pub record IsTurn {X : Type 0} (rules : Semantics X) (before after : Config X) (
 -- a channel's port was unplugged and an entry tells it; or it was not plugged, and nothing changed
 abbrev pub UnpluggedBy : {X : Type 0} → Bool → Semantics X → Config X → Config X → ℕ → List Entry → List Entry → Type 0
 UnpluggedBy true rules before after k entries entries' =
-    (fire rules before (Unplug k) ≡ (after, seen.Unplugged)) × (entries' ≡ entries ++ Unplugged k ∷ [])
+    (step rules before (Unplug k) ≡ Some (after, seen.Unplugged)) × (entries' ≡ entries ++ Unplugged k ∷ [])
 UnpluggedBy false rules before after k entries entries' = (after ≡ before) × (entries' ≡ entries)
 
 abbrev pub UnpluggedAt : {X : Type 0} → Semantics X → Config X → Config X → ℕ → List Entry → List Entry → Type 0

@@ -2,7 +2,7 @@
 
 ghost use Rattle.std.specs.Prelude.{◌≡◌, ◌+◌, ◌<◌, IfOk, OnOk, [], ◌∷◌, ◌++◌, None, true, false};
 ghost use Rattle.world.specs.WorldState.{is_plugged};
-ghost use Rattle.round_order.specs.Openings.{IsOpening, most_channels, is_ported};
+ghost use Rattle.round_order.specs.Openings.{IsOpening, most_channels};
 ghost use Rattle.round_order.specs.Journals.{IsOpened, UnpluggedAt};
 
 use micro_isa::NoMemory;
@@ -27,14 +27,13 @@ pub(crate) fn unplug_all<I: Interpreter>(alloc: Global, run: &mut I) -> Result<V
 }
 
 /// Unplugs a channel's port, where it is plugged, and tells it.
-#[tactic(auto, using(crate::proofs::Unplugging::unplug_is_legal, crate::proofs::Unplugging::was_unplugged, crate::proofs::Unplugging::was_not_plugged))]
+#[tactic(auto, using(crate::proofs::Unplugging::was_unplugged, crate::proofs::Unplugging::was_not_plugged))]
 fn unplug_at<I: Interpreter>(
     entries: &mut Vec<Entry>,
     run: &mut I,
     channel: u8,
 ) -> Result<(), NoMemory>
-    requires goes { (I.config run.old).core.over ≡ false }
-    requires ported { is_plugged (I.config run.old).core.world channel ≡ true → is_ported (I.config run.old).core.world channel ≡ true }
+    requires { (I.config run.old).core.over ≡ false }
     ensures rules { I.rules run.new ≡ I.rules run.old }
     ensures unplugged { OnOk result (UnpluggedAt (I.rules run.old) (I.config run.old) (I.config run.new) channel entries.old.items entries.new.items) }
 {

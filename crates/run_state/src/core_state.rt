@@ -1,8 +1,8 @@
 ghost use Rattle.std.specs.Prelude.{◌≡◌, ◌+◌, ◌≤◌, ◌<◌, IfOk, None, Some, true, false, length, slice_get, slice_set};
 ghost use Rattle.world.specs.WorldState.{can_receive, can_send, can_feed, is_plugged, received_from, after_receive, after_send, put_out, after_feed, after_unplug};
-ghost use Rattle.world.specs.declared.event.Event.TheVariants.{Run as RunOf, Feed as FeedOf, Unplug as UnplugOf};
+ghost use Rattle.world.specs.declared.event.Event.TheVariants.{Run as RunOf};
 ghost use Rattle.world.specs.declared.event.Phase.TheVariants.{Ready as ReadyPhase, Sending as SendingPhase};
-ghost use Rattle.semantics.specs.Core.{opening_core, steps_left, is_runnable, illegal_of, illegal_run, illegal_feed, illegal_unplug, completion, completed, finished, end_after, is_cut, ending_of, shown_core};
+ghost use Rattle.semantics.specs.Core.{opening_core, steps_left, is_runnable, illegal_of, illegal_run, completion, completed, finished, end_after, is_cut, ending_of, shown_core, some_runnable};
 
 use crate::{legality, stops};
 use micro_isa::{List, NoMemory, Setting};
@@ -63,13 +63,6 @@ impl RunCore {
         }
     }
 
-    /// The number of contexts.
-    pub fn contexts(&self) -> usize
-        ensures { result ≡ length self.now.phases }
-    {
-        self.phases.len()
-    }
-
     /// The first cause for which an event may not happen.
     pub fn illegal(&self, event: Event) -> Option<Illegal>
         ensures { result ≡ illegal_of self.now event }
@@ -79,8 +72,10 @@ impl RunCore {
         }
         match event {
             Event::Run(context) => self.illegal_run(context),
-            Event::Feed { channel, .. } => self.illegal_feed(channel),
-            Event::Unplug { channel } => self.illegal_unplug(channel),
+            Event::Feed { channel, .. } => legality::illegal_fed(self.world.channel(channel)),
+            Event::Unplug { channel } => {
+                legality::illegal_unplugged(self.world.channel(channel))
+            }
         }
     }
 
@@ -94,26 +89,6 @@ impl RunCore {
             None
         } else {
             Some(Illegal::NotRunnable)
-        }
-    }
-
-    fn illegal_feed(&self, channel: u8) -> Option<Illegal>
-        requires { self.now.over ≡ false }
-        ensures { result ≡ illegal_feed self.now channel }
-    {
-        match self.world.channel(channel) {
-            Some(queue) => legality::fed_illegal(queue),
-            None => Some(Illegal::NoPort),
-        }
-    }
-
-    fn illegal_unplug(&self, channel: u8) -> Option<Illegal>
-        requires { self.now.over ≡ false }
-        ensures { result ≡ illegal_unplug self.now channel }
-    {
-        match self.world.channel(channel) {
-            Some(queue) => legality::unplugged_illegal(queue),
-            None => Some(Illegal::NoPort),
         }
     }
 
@@ -132,13 +107,18 @@ impl RunCore {
             Some(End::Bound)
         } else if legality::all_ended(&self.phases) {
             Some(End::Finished)
-        } else if legality::some_runnable(&self.world, &self.phases)
-            || self.world.has_open_input()
-        {
+        } else if self.some_runnable() || self.world.has_open_input() {
             None
         } else {
             Some(End::Stuck)
         }
+    }
+
+    /// Whether some context can go on.
+    pub fn some_runnable(&self) -> bool
+        ensures { result ≡ some_runnable self.now }
+    {
+        legality::some_runnable(&self.world, &self.phases)
     }
 
     /// The steps that are left.
@@ -154,13 +134,6 @@ impl RunCore {
         ensures { result.now ≡ self.now.world.memory }
     {
         self.world.memory()
-    }
-
-    /// The steps spent so far.
-    pub fn steps(&self) -> u32
-        ensures { result ≡ self.now.steps }
-    {
-        self.steps
     }
 
     /// Does what a context waits for.
@@ -247,7 +220,7 @@ impl RunCore {
 
     /// Feeds a word to an input.
     pub fn feed(&mut self, channel: u8, word: u32)
-        requires { illegal_of self.old (FeedOf channel word) ≡ None }
+        requires { can_feed self.old.world channel ≡ true }
         ensures { self.new ≡ record self.old { world = after_feed self.old.world channel word } }
     {
         self.world.feed(channel, word);
@@ -255,12 +228,13 @@ impl RunCore {
 
     /// Unplugs the port of a channel.
     pub fn unplug(&mut self, channel: u8)
+        requires { is_plugged self.old.world channel ≡ true }
         ensures { self.new ≡ record self.old { world = after_unplug self.old.world channel } }
     {
         self.world.unplug(channel);
     }
 
-    /// Whether the ring of an input takes a word.
+    /// Whether a word can be fed to a channel: it is a plugged input whose ring has room.
     pub fn can_feed(&self, channel: u8) -> bool
         ensures { result ≡ can_feed self.now.world channel }
     {
@@ -282,12 +256,5 @@ impl RunCore {
             Ok(phases) => self.world.view(alloc, self.steps, List::of(phases)),
             Err(_) => Err(NoMemory),
         }
-    }
-
-    /// The words that were put out, in order.
-    pub fn outputs(&self) -> &[Output]
-        ensures { result.now ≡ self.now.world.outputs }
-    {
-        self.world.outputs()
     }
 }

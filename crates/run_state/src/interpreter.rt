@@ -1,9 +1,9 @@
-ghost use Rattle.std.specs.Prelude.{◌≡◌, ◌≤◌, None, length};
+ghost use Rattle.std.specs.Prelude.{◌≡◌, ◌≤◌, None, Some, false, length, true};
 ghost use Rattle.world.specs.WorldState.{is_plugged};
 ghost use Rattle.world.specs.declared.event.Event.TheVariants.{Run as RunOf, Unplug as UnplugOf};
 ghost use Rattle.world.specs.declared.event.Seen.TheVariants.{Ran as RanOf, Unplugged as UnpluggedOf};
 ghost use Rattle.semantics.specs.Core.{ending_of, illegal_of, is_runnable};
-ghost use Rattle.semantics.specs.Events.{Semantics, Config, fire};
+ghost use Rattle.semantics.specs.Events.{Semantics, Config, fire, step};
 ghost use Rattle.run_state.specs.Segments.{GoesOn};
 
 use world::{End, Segment};
@@ -44,9 +44,10 @@ pub trait Interpreter {
     fn plugged(&self, channel: u8) -> bool
         ensures { result ≡ is_plugged (config self.now).core.world channel };
 
-    /// Unplugs the port of a channel.
+    /// Unplugs the port of a channel, where it is plugged and the bound did not end the run.
     fn unplug(&mut self, channel: u8)
-        requires legal { illegal_of (config self.old).core (UnplugOf channel) ≡ None }
+        requires plugged { is_plugged (config self.old).core.world channel ≡ true }
+        requires goes { (config self.old).core.over ≡ false }
         ensures rules { rules self.new ≡ rules self.old }
-        ensures fire { fire (rules self.old) (config self.old) (UnplugOf channel) ≡ (config self.new, UnpluggedOf) };
+        ensures step { step (rules self.old) (config self.old) (UnplugOf channel) ≡ Some (config self.new, UnpluggedOf) };
 }

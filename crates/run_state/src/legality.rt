@@ -2,10 +2,10 @@
 
 ghost use Rattle.std.specs.Prelude.{◌≡◌, Some};
 ghost use Rattle.std.specs.List.{list_any, list_all};
-ghost use Rattle.semantics.specs.Core.{can_go_on, has_ended};
-ghost use Rattle.run_state.specs.Ports.{fed_illegal, unplugged_illegal};
+ghost use Rattle.std.specs.Option.{option_copied};
+ghost use Rattle.semantics.specs.Core.{can_go_on, has_ended, illegal_fed, illegal_unplugged};
 
-use world::{ChannelKind, ChannelQueue, Illegal, Phase, World};
+use world::{ChannelKind, ChannelQueue, Illegal, Phase, PortState, World};
 
 pub(crate) fn can_go_on(world: &World, phase: Option<Phase>) -> bool
     ensures { result ≡ can_go_on world.now phase }
@@ -19,30 +19,28 @@ pub(crate) fn can_go_on(world: &World, phase: Option<Phase>) -> bool
 }
 
 /// Why a word may not be fed to a channel.
-pub(crate) fn fed_illegal(queue: &ChannelQueue) -> Option<Illegal>
-    ensures { result ≡ fed_illegal (Some queue.now) }
+pub(crate) fn illegal_fed(channel: Option<&ChannelQueue>) -> Option<Illegal>
+    ensures { result ≡ illegal_fed (option_copied channel.entry) }
 {
-    if !matches!(queue.kind(), ChannelKind::Incoming) || !queue.is_ported() {
-        Some(Illegal::NoPort)
-    } else if !queue.is_plugged() {
-        Some(Illegal::Unplugged)
-    } else if queue.has_room() {
-        None
-    } else {
-        Some(Illegal::Full)
+    match channel {
+        Some(queue) if matches!(queue.kind(), ChannelKind::Incoming) => match queue.port() {
+            PortState::Absent => Some(Illegal::NoPort),
+            PortState::Plugged if queue.has_room() => None,
+            PortState::Plugged => Some(Illegal::Full),
+            PortState::Unplugged => Some(Illegal::Unplugged),
+        },
+        _ => Some(Illegal::NoPort),
     }
 }
 
 /// Why the port of a channel may not be unplugged.
-pub(crate) fn unplugged_illegal(queue: &ChannelQueue) -> Option<Illegal>
-    ensures { result ≡ unplugged_illegal (Some queue.now) }
+pub(crate) fn illegal_unplugged(channel: Option<&ChannelQueue>) -> Option<Illegal>
+    ensures { result ≡ illegal_unplugged (option_copied channel.entry) }
 {
-    if !queue.is_ported() {
-        Some(Illegal::NoPort)
-    } else if !queue.is_plugged() {
-        Some(Illegal::Unplugged)
-    } else {
-        None
+    match channel.map(|queue| queue.port()) {
+        Some(PortState::Plugged) => None,
+        Some(PortState::Unplugged) => Some(Illegal::Unplugged),
+        Some(PortState::Absent) | None => Some(Illegal::NoPort),
     }
 }
 

@@ -14,8 +14,12 @@ stepped_by : {X : Type 0} (rules : Semantics X) (m n : Config X) (e : Event) (s 
 stepped_by rules m n e s None h = same_Some _ _ h
 stepped_by rules m n e s (Some why) h = absurd (cc)
 
+-- an event that may happen is a step
+pub legal_step : {X : Type 0} (rules : Semantics X) (m : Config X) (e : Event) → illegal_of m.core e ≡ None → step rules m e ≡ Some (fire rules m e)
+legal_step rules m e legal = ap (λ o. unless_illegal o (fire rules m e)) legal
+
 -- a step that is defined is what happens there
-stepped : {X : Type 0} (rules : Semantics X) (m n : Config X) (e : Event) (s : Seen) → step rules m e ≡ Some (n, s) → fire rules m e ≡ (n, s)
+pub stepped : {X : Type 0} (rules : Semantics X) (m n : Config X) (e : Event) (s : Seen) → step rules m e ≡ Some (n, s) → fire rules m e ≡ (n, s)
 stepped rules m n e s h = stepped_by rules m n e s (illegal_of m.core e) h
 
 -- one entry more

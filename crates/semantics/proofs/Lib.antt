@@ -1,5 +1,6 @@
 pub mod Simulation
 pub mod Stretching
 pub mod Waiting
+pub mod Ports
 pub mod Histories
 pub mod Settling

@@ -15,6 +15,8 @@ use Rattle.world.specs.declared.event.Illegal.{Illegal}
 use Rattle.world.specs.declared.event.Illegal.TheVariants as illegal
 use Rattle.world.specs.declared.event.Output.{Output}
 use Rattle.world.specs.declared.event.View.{View}
+use Rattle.world.specs.declared.channel.PortState.{PortState}
+use Rattle.world.specs.declared.channel.PortState.TheVariants.{Absent, Plugged, Unplugged}
 use Rattle.world.specs.Channels.{ChannelState, is_incoming, has_room}
 use Rattle.world.specs.WorldState.{WorldState, can_receive, can_send, received_from, after_receive, after_send, put_out, has_open_input}
 use Rattle.world.specs.Opening.{opening_world}
@@ -59,25 +61,30 @@ illegal_run core c =
     if core.over then Some illegal.Over else
     (if nat_lt c (length core.phases) then (if is_runnable core c then None else Some illegal.NotRunnable) else Some illegal.NoContext)
 
-abbrev pub illegal_at_port : (ChannelState → Bool) → (ChannelState → Option Illegal) → Option ChannelState → Option Illegal
-illegal_at_port may rest None = Some illegal.NoPort
-illegal_at_port may rest (Some ch) =
-    if may ch then (if ch.plugged then rest ch else Some illegal.Unplugged) else Some illegal.NoPort
+-- a port that is not plugged, or what else stands against it
+abbrev pub illegal_at_port : PortState → Option Illegal → Option Illegal
+illegal_at_port Absent rest = Some illegal.NoPort
+illegal_at_port Plugged rest = rest
+illegal_at_port Unplugged rest = Some illegal.Unplugged
 
-abbrev pub is_ported_input : ChannelState → Bool
-is_ported_input ch = if is_incoming ch.kind then ch.ported else false
+-- why a channel takes no word from outside
+abbrev pub illegal_fed : Option ChannelState → Option Illegal
+illegal_fed None = Some illegal.NoPort
+illegal_fed (Some ch) =
+    if is_incoming ch.kind then illegal_at_port ch.port (if has_room ch then None else Some illegal.Full) else Some illegal.NoPort
+
+-- why the port of a channel cannot be unplugged
+abbrev pub illegal_unplugged : Option ChannelState → Option Illegal
+illegal_unplugged None = Some illegal.NoPort
+illegal_unplugged (Some ch) = illegal_at_port ch.port None
 
 -- the first cause for which a word may not be fed
 abbrev pub illegal_feed : Core → ℕ → Option Illegal
-illegal_feed core k =
-    if core.over then Some illegal.Over else
-    illegal_at_port is_ported_input (λ ch. if has_room ch then None else Some illegal.Full) (slice_get core.world.channels k)
+illegal_feed core k = if core.over then Some illegal.Over else illegal_fed (slice_get core.world.channels k)
 
 -- the first cause for which a port may not be unplugged
 abbrev pub illegal_unplug : Core → ℕ → Option Illegal
-illegal_unplug core k =
-    if core.over then Some illegal.Over else
-    illegal_at_port (λ ch. ch.ported) (λ ch. None) (slice_get core.world.channels k)
+illegal_unplug core k = if core.over then Some illegal.Over else illegal_unplugged (slice_get core.world.channels k)
 
 -- the first cause for which an event may not happen
 abbrev pub illegal_of : Core → Event → Option Illegal

@@ -1,3 +1,4 @@
 pub mod Putting
 pub mod SegmentLemmas
 pub mod Opening
+pub mod Ports

@@ -1,4 +1,5 @@
-ghost use Rattle.std.specs.Prelude.{◌≡◌, ◌≤◌, IfOk, IfErr, None, Some, length, map};
+ghost use Rattle.std.specs.Prelude.{◌≡◌, ◌≤◌, IfOk, IfErr, None, Some, false, length, map, true};
+ghost use Rattle.world.specs.WorldState.{is_plugged};
 ghost use Rattle.micro_isa.specs.Formed.{IsFormedBundle};
 ghost use Rattle.world.specs.declared.event.Event.TheVariants.{Run as RunOf, Feed as FeedOf, Unplug as UnplugOf};
 ghost use Rattle.world.specs.declared.event.Seen.TheVariants.{Ran as RanOf, Fed as FedOf, Unplugged as UnpluggedOf};
@@ -72,6 +73,7 @@ impl SourceRun {
         }
     }
 
+    #[tactic(auto, using(semantics::proofs::Ports::legal_feed, semantics::proofs::Ports::legal_unplug))]
     fn happen(&mut self, event: Event) -> Seen
         requires legal { illegal_of self.old.core event ≡ None }
         ensures bundle { self.new.bundle ≡ self.old.bundle }
@@ -95,12 +97,6 @@ impl SourceRun {
         ensures { IfOk result (λ view. view ≡ shown_core self.now.core) }
     {
         self.core.view(alloc)
-    }
-
-    pub fn bundle(&self) -> &Bundle
-        ensures { result.now ≡ self.now.bundle }
-    {
-        &self.bundle
     }
 }
 
@@ -136,10 +132,12 @@ impl Interpreter for SourceRun {
         self.core.plugged(channel)
     }
 
+    #[tactic(auto, using(crate::proofs::Ports::unplugs))]
     fn unplug(&mut self, channel: u8)
-        requires legal { illegal_of self.old.core (UnplugOf channel) ≡ None }
+        requires plugged { is_plugged self.old.core.world channel ≡ true }
+        requires goes { self.old.core.over ≡ false }
         ensures bundle { self.new.bundle ≡ self.old.bundle }
-        ensures fire { fire (source_semantics self.old.bundle) (config_of self.old) (UnplugOf channel) ≡ (config_of self.new, UnpluggedOf) }
+        ensures step { step (source_semantics self.old.bundle) (config_of self.old) (UnplugOf channel) ≡ Some (config_of self.new, UnpluggedOf) }
     {
         self.core.unplug(channel);
     }

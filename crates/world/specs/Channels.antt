@@ -2,13 +2,14 @@
 use Rattle.std.specs.Prelude.{ℕ, List, [], ◌∷◌, ◌++◌, length, drop, Bool, true, false, ◌||◌, ◌&&◌, nat_lt, Option, Some, None}
 use Rattle.world.specs.declared.channel.ChannelKind.{ChannelKind}
 use Rattle.world.specs.declared.channel.ChannelKind.TheVariants.{Inner, Incoming, Outgoing}
+use Rattle.world.specs.declared.channel.PortState.{PortState}
+use Rattle.world.specs.declared.channel.PortState.TheVariants.{Plugged, Unplugged}
 
--- a channel: its kind, whether it has a port and whether that is plugged, how many words its ring holds at most, the
--- initial words that were not yet received, and the words that were sent or fed and not yet received
+-- a channel: its kind, what became of its port, how many words its ring holds at most, the initial words that were not yet
+-- received, and the words that were sent or fed and not yet received
 pub record ChannelState : Type 0 where
   pub kind : ChannelKind
-  pub ported : Bool
-  pub plugged : Bool
+  pub port : PortState
   pub capacity : ℕ
   pub left : List ℕ
   pub ring : List ℕ
@@ -34,9 +35,17 @@ abbrev pub is_incoming : ChannelKind → Bool
 is_incoming Incoming = true
 is_incoming _ = false
 
+-- whether it has a port that is plugged
+abbrev pub is_plug : PortState → Bool
+is_plug Plugged = true
+is_plug _ = false
+
+abbrev pub has_plugged_port : ChannelState → Bool
+has_plugged_port ch = is_plug ch.port
+
 -- whether a word can be fed: an input that is plugged and whose ring has room
 abbrev pub takes_feed : ChannelState → Bool
-takes_feed ch = is_incoming ch.kind && ch.plugged && has_room ch
+takes_feed ch = is_incoming ch.kind && has_plugged_port ch && has_room ch
 
 -- the word that is received next: an initial one first
 abbrev pub head_of : List ℕ → List ℕ → Option ℕ
@@ -57,5 +66,6 @@ without_head ch = record ch { left = drop 1 ch.left; ring = ring_after ch.left c
 abbrev pub with_word : ℕ → ChannelState → ChannelState
 with_word w ch = record ch { ring = ch.ring ++ w ∷ [] }
 
+-- the channel after its port was unplugged
 abbrev pub without_port : ChannelState → ChannelState
-without_port ch = record ch { plugged = false }
+without_port ch = record ch { port = Unplugged }

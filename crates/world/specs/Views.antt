@@ -4,6 +4,7 @@ use Rattle.world.specs.declared.event.Phase.{Phase}
 use Rattle.world.specs.declared.event.View.{View}
 use Rattle.world.specs.declared.event.Trap.{Trap}
 use Rattle.world.specs.declared.event.Trap.TheVariants.{Address}
+use Rattle.world.specs.Channels.{has_plugged_port}
 use Rattle.world.specs.WorldState.{WorldState}
 
 -- the world with these steps and phases: the words of each channel, but no capacity
@@ -12,7 +13,7 @@ view_of w steps phases = record {
   memory = w.memory;
   left = map (λ ch. ch.left) w.channels;
   rings = map (λ ch. ch.ring) w.channels;
-  plugged = map (λ ch. ch.plugged) w.channels;
+  plugged = map has_plugged_port w.channels;
   outputs = w.outputs;
   steps = steps;
   phases = phases;

@@ -4,7 +4,7 @@ use Rattle.std.specs.List.{list_any}
 use Rattle.world.specs.declared.channel.ChannelKind.{ChannelKind}
 use Rattle.world.specs.declared.channel.ChannelKind.TheVariants.{Inner, Incoming, Outgoing}
 use Rattle.world.specs.declared.event.Output.{Output}
-use Rattle.world.specs.Channels.{ChannelState, has_word, takes_word, takes_feed, is_incoming, head_of, without_head, with_word, without_port}
+use Rattle.world.specs.Channels.{ChannelState, has_word, takes_word, takes_feed, is_incoming, has_plugged_port, head_of, without_head, with_word, without_port}
 
 -- memory, channels, the words put out so far, and how many may be put out, which is the bound of the run's steps
 pub record WorldState : Type 0 where
@@ -28,7 +28,7 @@ abbrev pub can_feed : WorldState → ℕ → Bool
 can_feed w k = holds_at takes_feed (slice_get w.channels k)
 
 abbrev pub is_plugged : WorldState → ℕ → Bool
-is_plugged w k = holds_at (λ ch. ch.plugged) (slice_get w.channels k)
+is_plugged w k = holds_at has_plugged_port (slice_get w.channels k)
 
 -- one channel changed, where it is there
 abbrev pub changed_at : (ChannelState → ChannelState) → List ChannelState → ℕ → Option ChannelState → List ChannelState
@@ -82,7 +82,7 @@ abbrev pub after_unplug : WorldState → ℕ → WorldState
 after_unplug w k = change without_port w k
 
 abbrev pub is_open_input : ChannelState → Bool
-is_open_input ch = is_incoming ch.kind && ch.plugged
+is_open_input ch = is_incoming ch.kind && has_plugged_port ch
 
 -- whether a word can still come from outside: an input is plugged
 abbrev pub has_open_input : WorldState → Bool

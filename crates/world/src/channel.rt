@@ -1,5 +1,5 @@
 ghost use Rattle.std.specs.Prelude.{◌≡◌, ◌<◌, ◌≤◌, IfOk, IsTrue, Some, true, length, []};
-ghost use Rattle.world.specs.Channels.{has_word, has_room, takes_word, takes_feed, head_of, without_head, with_word, without_port};
+ghost use Rattle.world.specs.Channels.{has_word, has_room, has_plugged_port, takes_word, takes_feed, head_of, without_head, with_word, without_port};
 ghost use Rattle.world.specs.Opening.{opened_channel};
 
 use circular_buffer::HeapCircularBuffer;
@@ -18,13 +18,23 @@ pub enum ChannelKind {
     Outgoing,
 }
 
+/// The port of a channel.
+#[derive(Clone, Copy, Debug, PartialEq, Eq)]
+pub enum PortState {
+    /// The channel has no port.
+    Absent,
+    /// Words go through it.
+    Plugged,
+    /// It is gone, for good.
+    Unplugged,
+}
+
 /// The words of one channel. Initial words are kept as they were given, with the number of those
 /// received; words sent or fed stand in a ring of fixed capacity.
 #[derive(Drop)]
 pub struct ChannelQueue {
     kind: ChannelKind,
-    ported: bool,
-    plugged: bool,
+    port: PortState,
     initial: Vec<u32>,
     received: usize,
     ring: HeapCircularBuffer<u32>,
@@ -36,7 +46,7 @@ impl Model for ChannelQueue {
 
     ghost Value = { ChannelState };
 
-    ghost view = { λ q. record { kind = q.kind; ported = q.ported; plugged = q.plugged; capacity = q.ring.capacity; left = drop q.received q.initial.items; ring = q.ring.items } };
+    ghost view = { λ q. record { kind = q.kind; port = q.port; capacity = q.ring.capacity; left = drop q.received q.initial.items; ring = q.ring.items } };
 
     ghost invariant = { λ q. q.received ≤ vec_len q.initial };
 }
@@ -48,10 +58,16 @@ impl ChannelQueue {
     {
         match channel {
             Channel::Inner { capacity } => {
-                queue(alloc, ChannelKind::Inner, false, &[], *capacity)
+                queue(alloc, ChannelKind::Inner, PortState::Absent, &[], *capacity)
             }
             Channel::Input { words, port: None } => {
-                queue(alloc, ChannelKind::Incoming, false, words.as_slice(), 0)
+                queue(
+                    alloc,
+                    ChannelKind::Incoming,
+                    PortState::Absent,
+                    words.as_slice(),
+                    0,
+                )
             }
             Channel::Input {
                 words,
@@ -59,32 +75,38 @@ impl ChannelQueue {
             } => queue(
                 alloc,
                 ChannelKind::Incoming,
-                true,
+                PortState::Plugged,
                 words.as_slice(),
                 port.capacity,
             ),
-            Channel::Output { port } => {
-                queue(alloc, ChannelKind::Outgoing, port.is_some(), &[], 0)
+            Channel::Output { port: None } => {
+                queue(alloc, ChannelKind::Outgoing, PortState::Absent, &[], 0)
+            }
+            Channel::Output { port: Some(_) } => {
+                queue(alloc, ChannelKind::Outgoing, PortState::Plugged, &[], 0)
             }
         }
     }
 
+    /// Which way its words go.
     pub fn kind(&self) -> ChannelKind
         ensures { result ≡ self.now.kind }
     {
         self.kind
     }
 
-    pub fn is_ported(&self) -> bool
-        ensures { result ≡ self.now.ported }
+    /// What became of its port.
+    pub fn port(&self) -> PortState
+        ensures { result ≡ self.now.port }
     {
-        self.ported
+        self.port
     }
 
+    /// Whether its port is plugged.
     pub fn is_plugged(&self) -> bool
-        ensures { result ≡ self.now.plugged }
+        ensures { result ≡ has_plugged_port self.now }
     {
-        self.plugged
+        matches!(self.port, PortState::Plugged)
     }
 
     /// Whether there is a word to receive.
@@ -116,7 +138,7 @@ impl ChannelQueue {
     pub fn takes_feed(&self) -> bool
         ensures { result ≡ takes_feed self.now }
     {
-        matches!(self.kind, ChannelKind::Incoming) && self.plugged && self.has_room()
+        matches!(self.kind, ChannelKind::Incoming) && self.is_plugged() && self.has_room()
     }
 
     /// Takes the next word: an initial one first.
@@ -166,21 +188,23 @@ impl ChannelQueue {
         }
     }
 
+    /// Unplugs its port.
     pub fn unplug(&mut self)
+        requires { has_plugged_port self.old ≡ true }
         ensures { self.new ≡ without_port self.old }
     {
-        self.plugged = false;
+        self.port = PortState::Unplugged;
     }
 }
 
 fn queue(
     alloc: Global,
     kind: ChannelKind,
-    ported: bool,
+    port: PortState,
     words: &[u32],
     capacity: u32,
 ) -> Result<ChannelQueue, NoMemory>
-    ensures { IfOk result (λ queue. queue ≡ record { kind = kind; ported = ported; plugged = ported; capacity = capacity; left = words.now; ring = [] }) }
+    ensures { IfOk result (λ queue. queue ≡ record { kind = kind; port = port; capacity = capacity; left = words.now; ring = [] }) }
 {
     let Ok(initial) = Vec::from_slice(alloc, words) else {
         return Err(NoMemory);
@@ -190,8 +214,7 @@ fn queue(
     };
     Ok(ChannelQueue {
         kind,
-        ported,
-        plugged: ported,
+        port,
         initial,
         received: 0,
         ring,

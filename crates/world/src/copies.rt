@@ -1,6 +1,7 @@
 //! Copies of lists of the world, for what a run shows.
 
 ghost use Rattle.std.specs.Prelude.{◌≡◌, IfOk, map};
+ghost use Rattle.world.specs.Channels.{has_plugged_port};
 
 use crate::channel::ChannelQueue;
 use micro_isa::{List, NoMemory};
@@ -51,7 +52,7 @@ pub(crate) fn ring_words(
 
 /// For each channel whether its port is plugged.
 pub(crate) fn plugs(alloc: Global, channels: &[ChannelQueue]) -> Result<List<bool>, NoMemory>
-    ensures { IfOk result (λ list. list ≡ map (λ ch. ch.plugged) channels.now) }
+    ensures { IfOk result (λ list. list ≡ map has_plugged_port channels.now) }
 {
     let mut list = List::new(alloc);
     for queue in channels {

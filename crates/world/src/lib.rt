@@ -7,6 +7,6 @@ mod copies;
 mod event;
 mod shared;
 
-pub use channel::{ChannelKind, ChannelQueue};
+pub use channel::{ChannelKind, ChannelQueue, PortState};
 pub use event::{End, Entry, Event, Illegal, Output, Phase, Seen, Segment, SegmentEnd, Trap, View};
 pub use shared::World;

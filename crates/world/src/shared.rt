@@ -1,4 +1,4 @@
-ghost use Rattle.std.specs.Prelude.{◌≡◌, ◌<◌, ◌↔◌, IfOk, IfErr, IsOk, Some, true, length, map, option_map, replicate, slice_get, slice_set};
+ghost use Rattle.std.specs.Prelude.{◌≡◌, ◌<◌, ◌↔◌, IfOk, IfErr, IsOk, IsSome, Some, true, length, map, option_map, replicate, slice_get, slice_set};
 ghost use Rattle.world.specs.WorldState.{can_receive, can_send, can_feed, is_plugged, received_from, after_receive, after_send, put_out, after_feed, after_unplug, has_open_input, changed_at, holds_at, is_open_input};
 ghost use Rattle.std.specs.List.{list_any};
 ghost use Rattle.std.specs.Option.{option_copied};
@@ -161,7 +161,7 @@ impl World {
     /// Sends a word to a channel that takes it, and says what that put out.
     pub fn send(&mut self, channel: u8, word: u32) -> Option<Output>
         requires takes { can_send self.old channel ≡ true }
-        requires room { length self.old.outputs < self.old.bound }
+        requires room { IsSome (put_out self.old channel word) → length self.old.outputs < self.old.bound }
         ensures sent { self.new ≡ after_send self.old channel word }
         ensures output { result ≡ put_out self.old channel word }
     {
@@ -175,7 +175,7 @@ impl World {
                 self.outputs.push_reserved(output);
                 Some(output)
             }
-            _ => None,
+            _ => unreachable!(),
         }
     }
 
@@ -209,6 +209,7 @@ impl World {
 
     /// Unplugs the port of a channel.
     pub fn unplug(&mut self, channel: u8)
+        requires { is_plugged self.old channel ≡ true }
         ensures { self.new ≡ after_unplug self.old channel }
     {
         if let Some(queue) = self.channels.get_mut(channel as usize) {
