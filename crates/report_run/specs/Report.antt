@@ -14,7 +14,7 @@ use Rattle.world.specs.declared.event.End.{End}
 use Rattle.world.specs.declared.event.End.TheVariants.{Finished, Stuck, Bound, Idle}
 use Rattle.report_run.specs.declared.report.Outcome.{Outcome}
 use Rattle.report_run.specs.Text.{newline, numbers, number_line, in_order}
-use Rattle.report_run.specs.Entries.{trap_word, entry_line}
+use Rattle.journal_text.specs.Entries.{trap_word, entry_line}
 
 abbrev pub need_line : Option ℕ → List ℕ
 need_line None = []

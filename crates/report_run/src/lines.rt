@@ -6,8 +6,8 @@ ghost use Rattle.world.specs.declared.event.Phase.TheVariants.{Sending, Trapped}
 ghost use Rattle.report_run.specs.Text.{numbers};
 ghost use Rattle.report_run.specs.Report.{put_on, output_words, output_line, held_line, queue_line, memory_line, memory_lines, phase_words, context_line, file_line, ending_word, end_line};
 
-use crate::entry::trap_word;
 use crate::text::{put_bytes, put_count, put_numbers};
+use journal_text::trap_word;
 use micro_isa::{Channel, List, NoMemory};
 use micro_kit::put_number;
 use world::{End, Output, Phase, Trap};

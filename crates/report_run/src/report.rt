@@ -1,13 +1,13 @@
 ghost use Rattle.std.specs.Prelude.{◌≡◌, ◌++◌, OnOk, IfOk};
 ghost use Rattle.std.specs.Option.{option_copied};
 ghost use Rattle.std.specs.List.{flat_map};
-ghost use Rattle.report_run.specs.Entries.{entry_line};
+ghost use Rattle.journal_text.specs.Entries.{entry_line};
 ghost use Rattle.report_run.specs.Report.{report_text, need_line, image_lines, output_lines, queue_lines, context_lines, view_lines};
 
-use crate::entry::put_entry;
 use crate::image::put_image;
 use crate::lines::{put_context, put_end, put_file, put_memory, put_output, put_queue};
 use crate::text::put_number_line;
+use journal_text::put_entry;
 use micro_isa::{Channel, Image, List, NoMemory};
 use std::alloc::Global;
 use world::{End, Entry, Output, Phase, View};

@@ -1,4 +1,5 @@
 use super::*;
+use journal_text::put_entry;
 use micro_isa::{Channel, Code, Image, Instr, List, PReg, Range, Setting, Word};
 use std::alloc::Global;
 use std::test::Fail;

@@ -1,6 +1,6 @@
 use Rattle.std.proofs.Common.{◌≡◌, ◌++◌, take}
 use Rattle.std.specs.List.{flat_map}
-use Rattle.report_run.specs.Entries.{entry_line}
+use Rattle.journal_text.specs.Entries.{entry_line}
 use Rattle.report_run.proofs.report.put_entries.Given as goal
 
 abbrev pub invariant-loop-entry : goal.invariant-loop-entry

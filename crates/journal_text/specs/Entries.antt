@@ -1,12 +1,11 @@
 -- The line of a journal's entry.
-use Rattle.std.specs.Prelude.{ℕ, ◌<◌, ◌^◌, List, ◌++◌, decimal, codes}
+use Rattle.std.specs.Prelude.{◌≡◌, ℕ, ◌<◌, ◌^◌, List, [], ◌∷◌, ◌++◌, decimal, codes}
 use Rattle.world.specs.declared.event.Trap.{Trap}
 use Rattle.world.specs.declared.event.Trap.TheVariants.{Divide, Address}
 use Rattle.world.specs.declared.event.SegmentEnd.{SegmentEnd}
 use Rattle.world.specs.declared.event.SegmentEnd.TheVariants as end
 use Rattle.world.specs.declared.event.Entry.{Entry}
 use Rattle.world.specs.declared.event.Entry.TheVariants.{Ran, Fed, Unplugged}
-use Rattle.report_run.specs.Text.{newline}
 
 abbrev pub trap_word : Trap → List ℕ
 trap_word Divide = codes "divide"
@@ -29,7 +28,15 @@ IsFitting (Fed k w) = (k < 2 ^ 8) × (w < 2 ^ 32)
 IsFitting (Unplugged k) = k < 2 ^ 8
 
 -- `run C N END`, `feed K W` or `unplug K`
+abbrev pub entry_words : Entry → List ℕ
+entry_words (Ran c n end) = codes "run " ++ decimal c ++ codes " " ++ decimal n ++ codes " " ++ end_word end
+entry_words (Fed k w) = codes "feed " ++ decimal k ++ codes " " ++ decimal w
+entry_words (Unplugged k) = codes "unplug " ++ decimal k
+
+-- the words and a newline
 abbrev pub entry_line : Entry → List ℕ
-entry_line (Ran c n end) = codes "run " ++ decimal c ++ codes " " ++ decimal n ++ codes " " ++ end_word end ++ newline
-entry_line (Fed k w) = codes "feed " ++ decimal k ++ codes " " ++ decimal w ++ newline
-entry_line (Unplugged k) = codes "unplug " ++ decimal k ++ newline
+entry_line e = entry_words e ++ 10 ∷ []
+
+-- the line of no entry
+abbrev pub IsNoEntry : List ℕ → Type 0
+IsNoEntry line = (e : Entry) → IsFitting e → line ≡ entry_words e → ⊥

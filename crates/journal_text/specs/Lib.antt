@@ -1,0 +1,6 @@
+pub mod Entries
+pub mod Parting
+pub mod Reading
+pub mod Journals
+pub mod Lines
+pub mod Faults
