@@ -1,0 +1,111 @@
+-- What the code of a whole context asks for.
+use Rattle.std.proofs.Common.{◌≡◌, ℕ, suc, ◌+◌, ◌<◌, ◌≤◌, List, [], ◌∷◌, ◌++◌, length, Option, Some, None, Bool, true, false, refl, sym, ap, ◌∙◌, arith, append_assoc, add-one}
+use Rattle.std.specs.Prelude.{slice_get, slice_index, ◌==◌, if◌then◌else◌}
+use Rattle.std.proofs.lemmas.Option.{get_or_from_slice_get}
+use Rattle.micro_isa.specs.declared.instr.Instr.{Instr}
+use Rattle.micro_isa.specs.declared.instr.Instr.TheVariants.{Li, Mov, Alu, Div, Ctx, Jmp, Branch, Load, Store, Yield, Recv, Send, Halt}
+use Rattle.micro_isa.specs.declared.program.Line.{Line}
+use Rattle.micro_isa.specs.declared.image.PReg.{PReg}
+use Rattle.micro_isa.specs.declared.image.Word.{Word}
+use Rattle.micro_isa.specs.Columns.{next_of}
+use Rattle.flow_graph.specs.Paths.{IsClosedCode}
+use Rattle.edge_moves.specs.declared.step.Step.{Step}
+use Rattle.edge_moves.specs.declared.step.Step.TheVariants as step
+use Rattle.edge_moves.specs.Within.{StepWithin, StepsWithin}
+use Rattle.plan.specs.declared.row.Place.{Place}
+use Rattle.plan.specs.declared.row.Plan.{Plan}
+use Rattle.plan.specs.ValidPlans.{place_in, IsValidPlan}
+use Rattle.micro_isa.specs.Pieces.{pieces, total}
+use Rattle.emitted.specs.Edges.{row_at, place_or_zero, next_at, edge_steps, steps_to, fall_steps, jump_steps}
+use Rattle.emitted.specs.Words.{reword, address, size_with_jump, block_size, block_address, target_for, target_from, word_for, word_at, block_words, block_to, block_at}
+use Rattle.emitted.proofs.Rows.{row_valid, listed_below}
+use Rattle.emitted.proofs.Implementing.{single_at}
+use Rattle.emitted.proofs.FormedWords.{fall_below, jump_below}
+use Rattle.emit.specs.Addressed.{firsts}
+use Rattle.emit.proofs.Edging.{jump_edge}
+
+-- steps and places of a valid plan are small
+
+step_less : (r : ℕ) → r ≤ 128 → (s : Step) → StepWithin r s → StepWithin 128 s
+step_less r few (step.Mov to from) h = let a = h.0 in let b = h.1 in (omega arith, omega arith)
+step_less r few (step.Xor to with) h = let a = h.0 in let b = h.1 in (omega arith, omega arith)
+
+steps_less : (r : ℕ) → r ≤ 128 → (ss : List Step) → StepsWithin r ss → StepsWithin 128 ss
+steps_less r few [] h = tt
+steps_less r few (s ∷ ss) h = (step_less r few s h.0, steps_less r few ss h.1)
+
+pub fall_small : (code : List Line) (plan : Plan) (i : ℕ) → IsValidPlan code plan → IsClosedCode code → i < length code → StepsWithin 128 (fall_steps code plan i) × (length (fall_steps code plan i) ≤ 381)
+fall_small code plan i valid closed lt =
+    let k = fall_below code plan plan.r (λ q. record { 0 = q }) (λ q n ql nl e. e) (λ q ql. ql) valid closed i lt in
+    (steps_less plan.r valid.few (fall_steps code plan i) k.0, k.1)
+
+pub jump_small : (code : List Line) (plan : Plan) (i : ℕ) → IsValidPlan code plan → IsClosedCode code → i < length code → StepsWithin 128 (jump_steps code plan i) × (length (jump_steps code plan i) ≤ 381)
+jump_small code plan i valid closed lt =
+    let k = jump_below code plan plan.r (λ q. record { 0 = q }) (λ q n ql nl e. e) (λ q ql. ql) valid closed i lt in
+    (steps_less plan.r valid.few (jump_steps code plan i) k.0, k.1)
+
+small_in : (qs : List Place) (r : ℕ) → r ≤ 128 → ((a : ℕ) (q : Place) → slice_get qs a ≡ Some q → q.place < r) → (k : ℕ) → place_in qs k < 128
+small_in [] r few h k = omega arith
+small_in (q ∷ qs) r few h k = by (small_in qs r few (λ a x e. h (suc a) x e) k) (q.register.0 == k)
+  where
+    by : place_in qs k < 128 → (b : Bool) → (if b then q.place else place_in qs k) < 128
+    by rest true = let first = h 0 q refl in omega arith
+    by rest false = rest
+
+pub places_small : (code : List Line) (plan : Plan) (i : ℕ) → IsValidPlan code plan → i < length code → (k : ℕ) → place_in (row_at plan i).places k < 128
+places_small code plan i valid lt = small_in (row_at plan i).places plan.r valid.few (listed_below code plan valid i lt)
+
+pub write_small : (code : List Line) (plan : Plan) (i : ℕ) → IsValidPlan code plan → i < length code → place_or_zero (row_at plan i).write < 128
+write_small code plan i valid lt = by (row_at plan i).write refl
+  where
+    by : (o : Option ℕ) → (row_at plan i).write ≡ o → place_or_zero o < 128
+    by None e = omega arith
+    by (Some w) e = let below = (row_valid code plan valid i lt).write_in_range w e in let few = valid.few in omega arith
+
+-- addresses in the list
+
+pub first_at : (f : ℕ → ℕ) (n j : ℕ) → j < n → slice_index (firsts f n) j ≡ f j
+first_at f n j lt = get_or_from_slice_get (firsts f n) j (f j) 0 (single_at f n j lt)
+
+-- where i jumps to
+pub goto_is : (code : List Line) (plan : Plan) (i start : ℕ) → ((j : ℕ) → (next_at (slice_get code i) i).jump ≡ Some j → start ≡ address code plan j) → (j : ℕ) → (next_at (slice_get code i) i).jump ≡ Some j → target_for (jump_steps code plan i) (block_address code plan i) start ≡ target_from code plan i j
+goto_is code plan i start h j e =
+    (λ a. target_for (steps a) (block_address code plan i) (h j e a))
+  where
+    steps : jump_steps code plan i ≡ edge_steps code plan i j
+    steps = ap (λ o. steps_to code plan i o) e
+
+-- the word of an instruction, where its target is known
+same_goto : {R S : Type 0} (f : R → S) (g : S) (t : ℕ → ℕ) (goto i : ℕ) (o : Instr R) → ((j : ℕ) → (next_of o i).jump ≡ Some j → goto ≡ t j) → reword f g (λ j. goto) o ≡ reword f g t o
+same_goto f g t goto i (Li to n) h = refl
+same_goto f g t goto i (Mov to from) h = refl
+same_goto f g t goto i (Alu op to a b) h = refl
+same_goto f g t goto i (Div op to a b) h = refl
+same_goto f g t goto i (Ctx to) h = refl
+same_goto f g t goto i (Jmp target) h = λ k. Jmp (h target refl k)
+same_goto f g t goto i (Branch test a b target) h = λ k. Branch test (f a) (f b) (h target refl k)
+same_goto f g t goto i (Load to address) h = refl
+same_goto f g t goto i (Store address from) h = refl
+same_goto f g t goto i Yield h = refl
+same_goto f g t goto i (Recv to channel) h = refl
+same_goto f g t goto i (Send channel from) h = refl
+same_goto f g t goto i Halt h = refl
+
+pub word_is : (code : List Line) (plan : Plan) (reg : ℕ → PReg) (i goto : ℕ) (l : Line) → slice_get code i ≡ Some l → ((j : ℕ) → (next_at (slice_get code i) i).jump ≡ Some j → goto ≡ target_from code plan i j) → (w : Word) → w ≡ record { instr = reword (λ v. reg (place_in (row_at plan i).places v.0)) (reg (place_or_zero (row_at plan i).write)) (λ j. goto) l.instr; counted = true; line = l.line } → w ≡ word_at code plan reg i
+word_is code plan reg i goto l is h w e =
+    e ∙ (λ k. record { instr = same_goto (λ v. reg (place_in (row_at plan i).places v.0)) (reg (place_or_zero (row_at plan i).write)) (target_from code plan i) goto i l.instr (λ j n. h j (ap (λ o. (next_at o i).jump) is ∙ n)) k; counted = true; line = l.line })
+    ∙ ap (word_for code plan reg i) (sym is)
+
+pub block_is : (code : List Line) (plan : Plan) (reg : ℕ → PReg) (i start : ℕ) → ((j : ℕ) → (next_at (slice_get code i) i).jump ≡ Some j → start ≡ address code plan j) → block_words reg (jump_steps code plan i) start ≡ block_at code plan reg i
+block_is code plan reg i start h = by (next_at (slice_get code i) i).jump h
+  where
+    by : (o : Option ℕ) → ((j : ℕ) → o ≡ Some j → start ≡ address code plan j) → block_words reg (steps_to code plan i o) start ≡ block_to code plan reg i o
+    by None k = refl
+    by (Some j) k = ap (block_words reg (edge_steps code plan i j)) (k j refl)
+
+pub next_piece : {A : Type 0} (f : ℕ → List A) (n : ℕ) (ws ws' : List A) → ws ≡ pieces f n → ws' ≡ ws ++ f n → ws' ≡ pieces f (n + 1)
+next_piece f n ws ws' e h = h ∙ ap (λ k. k ++ f n) e ∙ ap (pieces f) (sym (add-one n))
+
+pub next_behind : {A : Type 0} (front : List A) (f : ℕ → List A) (n : ℕ) (ws ws' : List A) → ws ≡ front ++ pieces f n → ws' ≡ ws ++ f n → ws' ≡ front ++ pieces f (n + 1)
+next_behind front f n ws ws' e h =
+    h ∙ ap (λ k. k ++ f n) e ∙ append_assoc front (pieces f n) (f n) ∙ ap (λ k. front ++ pieces f k) (sym (add-one n))

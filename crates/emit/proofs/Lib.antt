@@ -1,0 +1,7 @@
+pub mod Naming
+pub mod Filling
+pub mod Edging
+pub mod Sizing
+pub mod Laying
+pub mod Addressing
+pub mod Imaging

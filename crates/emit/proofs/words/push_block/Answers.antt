@@ -1,0 +1,8 @@
+use Rattle.std.proofs.Common.{◌∙◌, sym, subst}
+use Rattle.edge_moves.specs.Within.{StepsWithin}
+use Rattle.emit.proofs.Laying.{jump_small}
+use Rattle.emit.proofs.words.push_block.Goals as goal
+
+pub push_steps-requires : goal.push_steps-requires
+push_steps-requires c =
+    subst (StepsWithin 128) (sym (c.as_slice.ensures ∙ c.in_ok-steps.ensures)) (jump_small c.args.code.now c.args.plan.now c.args.i c.requires.valid c.requires.closed c.requires.within).0

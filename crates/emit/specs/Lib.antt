@@ -1,0 +1,4 @@
+pub mod Tables
+pub mod Addressed
+pub mod Blocks
+pub mod Layouts

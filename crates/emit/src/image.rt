@@ -1,0 +1,155 @@
+//! The image of a bundle.
+
+ghost use Rattle.std.specs.Prelude.{ℕ, ◌≡◌, ◌+◌, ◌<◌, ◌≤◌, ◌++◌, ◌∷◌, [], IfOk, OnOk, length, sum, slice_get};
+ghost use Rattle.micro_isa.specs.Formed.{IsFormedBundle};
+ghost use Rattle.semantics.specs.Source.{code_in};
+ghost use Rattle.micro_isa.specs.Pieces.{pieces};
+ghost use Rattle.emitted.specs.Emitted.{plan_at, start_of, size_of, context_of, emitted, ArePlans, HasRoom, IsEmitted};
+
+use crate::layout::Layout;
+use crate::rows::number_at;
+use crate::words::context_words;
+use budget::Budget;
+use micro_isa::{Bundle, Code, Image, Line, List, NoMemory, Program, Range};
+use plan::Plan;
+use std::alloc::Global;
+
+/// The image of a bundle for these plans and this budget. It is formed and does what the bundle
+/// does, for every bound and every list of events.
+#[tactic(auto, using(crate::proofs::Imaging::is_emitted_as))]
+pub fn emit(
+    alloc: Global,
+    bundle: &Bundle,
+    plans: &[Plan],
+    budget: &Budget,
+) -> Result<Image, NoMemory>
+    requires formed { IsFormedBundle bundle.now }
+    requires plans { ArePlans bundle.now plans.now }
+    requires room { HasRoom bundle.now plans.now budget.now }
+    ensures image { IfOk result (λ image. image ≡ emitted bundle.now plans.now budget.now) }
+    ensures law { IfOk result (λ image. IsEmitted bundle.now plans.now budget.now image) }
+{
+    image_of(alloc, bundle, plans, budget)
+}
+
+fn image_of(
+    alloc: Global,
+    bundle: &Bundle,
+    plans: &[Plan],
+    budget: &Budget,
+) -> Result<Image, NoMemory>
+    requires formed { IsFormedBundle bundle.now }
+    requires plans { ArePlans bundle.now plans.now }
+    requires room { HasRoom bundle.now plans.now budget.now }
+    ensures { IfOk result (λ image. image ≡ emitted bundle.now plans.now budget.now) }
+{
+    let setting = bundle.setting.copy(alloc)?;
+    let shared = total(budget.private.as_slice());
+    let contexts = contexts_of(alloc, bundle, plans, budget, shared)?;
+    Ok(Image {
+        file: bundle.file,
+        setting,
+        shared: Range {
+            start: shared,
+            size: budget.shared,
+        },
+        contexts,
+    })
+}
+
+#[tactic(auto, using(crate::proofs::Imaging::next_sum, crate::proofs::Imaging::sum_more))]
+fn total(numbers: &[u32]) -> u32
+    requires { sum numbers.now ≤ 128 }
+    ensures { result ≡ sum numbers.now }
+{
+    let mut total = 0u32;
+    for i in 0..numbers.len() {
+        total += number_at(numbers, i);
+    }
+    total
+}
+
+fn code_at(programs: &[Program], c: usize) -> &[Line]
+    ensures { result.now ≡ code_in (slice_get programs.now c) }
+{
+    match programs.get(c) {
+        Some(program) => program.code.as_slice(),
+        None => &[],
+    }
+}
+
+fn plan_at(plans: &[Plan], c: usize) -> &Plan
+    requires { c < length plans.now }
+    ensures { result.now ≡ plan_at plans.now c }
+{
+    &plans[c]
+}
+
+#[tactic(auto, using(crate::proofs::Imaging::next_sum, crate::proofs::Imaging::sum_more, crate::proofs::Laying::next_piece))]
+fn contexts_of(
+    alloc: Global,
+    bundle: &Bundle,
+    plans: &[Plan],
+    budget: &Budget,
+    shared: u32,
+) -> Result<List<Code>, NoMemory>
+    requires formed { IsFormedBundle bundle.now }
+    requires plans { ArePlans bundle.now plans.now }
+    requires room { HasRoom bundle.now plans.now budget.now }
+    requires shared { shared ≡ sum budget.now.private }
+    ensures { IfOk result (λ contexts. contexts ≡ pieces (λ c. context_of bundle.now plans.now budget.now c ∷ []) (length bundle.now.programs)) }
+{
+    let mut contexts = List::new(alloc);
+    let mut start = 0u32;
+    for c in 0..bundle.programs.len() {
+        let own = number_at(budget.private.as_slice(), c);
+        let code = context_of(
+            alloc,
+            bundle,
+            plans,
+            budget,
+            c,
+            Layout { start, own, shared },
+        )?;
+        push_context(&mut contexts, code)?;
+        start += own;
+    }
+    Ok(contexts)
+}
+
+fn push_context(contexts: &mut List<Code>, code: Code) -> Result<(), NoMemory>
+    ensures { OnOk result (contexts.new ≡ contexts.old ++ code ∷ []) }
+{
+    if contexts.push(code).is_err() {
+        return Err(NoMemory);
+    }
+    Ok(())
+}
+
+fn context_of(
+    alloc: Global,
+    bundle: &Bundle,
+    plans: &[Plan],
+    budget: &Budget,
+    c: usize,
+    layout: Layout,
+) -> Result<Code, NoMemory>
+    requires formed { IsFormedBundle bundle.now }
+    requires plans { ArePlans bundle.now plans.now }
+    requires room { HasRoom bundle.now plans.now budget.now }
+    requires within { c < length bundle.now.programs }
+    requires start { layout.start ≡ start_of budget.now.private c }
+    requires own { layout.own ≡ size_of budget.now.private c }
+    requires shared { layout.shared ≡ sum budget.now.private }
+    ensures { IfOk result (λ code. code ≡ context_of bundle.now plans.now budget.now c) }
+{
+    let code = code_at(bundle.programs.as_slice(), c);
+    let words = context_words(alloc, code, plan_at(plans, c), layout)?;
+    Ok(Code {
+        private: Range {
+            start: layout.start,
+            size: layout.own,
+        },
+        words,
+    })
+}

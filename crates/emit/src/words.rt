@@ -1,0 +1,188 @@
+//! The words of a context.
+
+ghost use Rattle.std.specs.Prelude.{ℕ, ◌≡◌, ◌<◌, ◌++◌, ◌∷◌, [], IfOk, OnOk, Some, length, map, slice_get};
+ghost use Rattle.flow_graph.specs.Paths.{IsClosedCode};
+ghost use Rattle.edge_moves.specs.Within.{StepsWithin};
+ghost use Rattle.micro_isa.specs.Pieces.{pieces};
+ghost use Rattle.plan.specs.ValidPlans.{IsValidPlan};
+ghost use Rattle.emitted.specs.Edges.{next_at, fall_steps, jump_steps};
+ghost use Rattle.emitted.specs.Words.{step_word, jump_word, target_from, piece_at, block_at, words_of_plan};
+ghost use Rattle.emit.specs.Layouts.{register_at};
+ghost use Rattle.emit.specs.Addressed.{AreAddresses};
+
+use crate::after::places_after;
+use crate::counted::{counted_word, jump_word, step_word};
+use crate::edges::steps_to;
+use crate::layout::Layout;
+use crate::rows::next_at;
+use crate::starts::{Addresses, addresses_of, goto_at, has_block, target_start, word_count};
+use edge_moves::Step;
+use micro_isa::{Line, List, NoMemory, Word};
+use plan::Plan;
+use smallvec::SmallVec;
+use std::alloc::Global;
+
+/// The words of a context: those of its instructions, each with the steps of its fall, and then the
+/// blocks of its jumps.
+pub(crate) fn context_words(
+    alloc: Global,
+    code: &[Line],
+    plan: &Plan,
+    layout: Layout,
+) -> Result<List<Word>, NoMemory>
+    requires closed { IsClosedCode code.now }
+    requires valid { IsValidPlan code.now plan.now }
+    ensures { IfOk result (λ words. words ≡ words_of_plan code.now plan.now (register_at layout)) }
+{
+    let addresses = addresses_of(alloc, code, plan)?;
+    let mut words = List::new(alloc);
+    words.reserve(word_count(code, plan, &addresses) as usize)?;
+    push_pieces(alloc, &mut words, code, plan, &addresses, layout)?;
+    push_blocks(alloc, &mut words, code, plan, &addresses, layout)?;
+    Ok(words)
+}
+
+fn push(words: &mut List<Word>, word: Word) -> Result<(), NoMemory>
+    ensures { OnOk result (words.new ≡ words.old ++ word ∷ []) }
+{
+    if words.push(word).is_err() {
+        return Err(NoMemory);
+    }
+    Ok(())
+}
+
+/// The words of an edge's steps.
+fn push_steps(words: &mut List<Word>, steps: &[Step], layout: Layout) -> Result<(), NoMemory>
+    requires { StepsWithin 128 steps.now }
+    ensures { OnOk result (words.new ≡ words.old ++ map (step_word (register_at layout)) steps.now) }
+{
+    for step in steps {
+        let word = step_word(*step, layout);
+        if words.push(word).is_err() {
+            return Err(NoMemory);
+        }
+    }
+    Ok(())
+}
+
+/// The steps where instruction `i` falls through.
+#[tactic(auto, using(crate::proofs::Edging::fall_edge))]
+fn fall_steps(
+    alloc: Global,
+    code: &[Line],
+    plan: &Plan,
+    i: usize,
+) -> Result<SmallVec<Step, 16, Global>, NoMemory>
+    requires closed { IsClosedCode code.now }
+    requires valid { IsValidPlan code.now plan.now }
+    requires within { i < length code.now }
+    ensures { IfOk result (λ done. done.items ≡ fall_steps code.now plan.now i) }
+{
+    let after = places_after(code, plan, i);
+    steps_to(alloc, code, plan, i, &after, next_at(code, i).fall)
+}
+
+/// The steps where instruction `i` jumps.
+#[tactic(auto, using(crate::proofs::Edging::jump_edge))]
+fn jump_steps(
+    alloc: Global,
+    code: &[Line],
+    plan: &Plan,
+    i: usize,
+) -> Result<SmallVec<Step, 16, Global>, NoMemory>
+    requires closed { IsClosedCode code.now }
+    requires valid { IsValidPlan code.now plan.now }
+    requires within { i < length code.now }
+    ensures { IfOk result (λ done. done.items ≡ jump_steps code.now plan.now i) }
+{
+    let after = places_after(code, plan, i);
+    steps_to(alloc, code, plan, i, &after, next_at(code, i).jump)
+}
+
+/// The counted words, each with the steps of its fall.
+#[tactic(auto, using(crate::proofs::Laying::next_behind))]
+fn push_pieces(
+    alloc: Global,
+    words: &mut List<Word>,
+    code: &[Line],
+    plan: &Plan,
+    addresses: &Addresses,
+    layout: Layout,
+) -> Result<(), NoMemory>
+    requires closed { IsClosedCode code.now }
+    requires valid { IsValidPlan code.now plan.now }
+    requires addresses { AreAddresses code.now plan.now addresses.now }
+    ensures { OnOk result (words.new ≡ words.old ++ pieces (piece_at code.now plan.now (register_at layout)) (length code.now)) }
+{
+    for i in 0..code.len() {
+        let goto = goto_at(code, plan, addresses, i);
+        push_piece(alloc, words, code, plan, i, goto, layout)?;
+    }
+    Ok(())
+}
+
+/// The counted word of an instruction, and the steps of its fall.
+fn push_piece(
+    alloc: Global,
+    words: &mut List<Word>,
+    code: &[Line],
+    plan: &Plan,
+    i: usize,
+    goto: u32,
+    layout: Layout,
+) -> Result<(), NoMemory>
+    requires closed { IsClosedCode code.now }
+    requires valid { IsValidPlan code.now plan.now }
+    requires within { i < length code.now }
+    requires goto { (j : ℕ) → (next_at (slice_get code.now i) i).jump ≡ Some j → goto ≡ target_from code.now plan.now i j }
+    ensures { OnOk result (words.new ≡ words.old ++ piece_at code.now plan.now (register_at layout) i) }
+{
+    let falls = fall_steps(alloc, code, plan, i)?;
+    push(words, counted_word(code, plan, i, goto, layout))?;
+    push_steps(words, falls.as_slice(), layout)
+}
+
+/// The blocks of the jumps.
+#[tactic(auto, using(crate::proofs::Laying::next_behind))]
+fn push_blocks(
+    alloc: Global,
+    words: &mut List<Word>,
+    code: &[Line],
+    plan: &Plan,
+    addresses: &Addresses,
+    layout: Layout,
+) -> Result<(), NoMemory>
+    requires closed { IsClosedCode code.now }
+    requires valid { IsValidPlan code.now plan.now }
+    requires addresses { AreAddresses code.now plan.now addresses.now }
+    ensures { OnOk result (words.new ≡ words.old ++ pieces (block_at code.now plan.now (register_at layout)) (length code.now)) }
+{
+    for i in 0..code.len() {
+        push_block(alloc, words, code, plan, addresses, i, layout)?;
+    }
+    Ok(())
+}
+
+/// The steps of a jump, and the jump behind them, where there are any.
+fn push_block(
+    alloc: Global,
+    words: &mut List<Word>,
+    code: &[Line],
+    plan: &Plan,
+    addresses: &Addresses,
+    i: usize,
+    layout: Layout,
+) -> Result<(), NoMemory>
+    requires closed { IsClosedCode code.now }
+    requires valid { IsValidPlan code.now plan.now }
+    requires addresses { AreAddresses code.now plan.now addresses.now }
+    requires within { i < length code.now }
+    ensures { OnOk result (words.new ≡ words.old ++ block_at code.now plan.now (register_at layout) i) }
+{
+    if !has_block(code, plan, addresses, i) {
+        return Ok(());
+    }
+    let steps = jump_steps(alloc, code, plan, i)?;
+    push_steps(words, steps.as_slice(), layout)?;
+    push(words, jump_word(target_start(code, plan, addresses, i)))
+}
