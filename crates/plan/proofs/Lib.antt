@@ -1,0 +1,5 @@
+pub mod Entries
+pub mod Lists
+pub mod Places
+pub mod Checked
+pub mod Enough

@@ -1,1 +1,3 @@
 pub mod ValidPlans
+pub mod Faults
+pub mod Finding
