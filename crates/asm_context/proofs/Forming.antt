@@ -20,7 +20,7 @@ use Rattle.asm_context.proofs.Naming.{said_snoc}
 use Rattle.asm_context.proofs.Numbering.{numbers, places_all, firsts-append, first_names}
 use Rattle.asm_context.proofs.Labelling.{names_from, targets_from}
 use Rattle.asm_context.proofs.Ordering.{IsOrderly, orderly, done_grows, registers_grow}
-use Rattle.asm_context.proofs.Instructing.{IsClean, FormFact, form_fact, known_fold}
+use Rattle.asm_context.proofs.Instructing.{IsClean, FormFact, form_fact, known_fold, made_body}
 
 -- code from a line on, behind which so much is said
 record IsCode (chs : Channels) (all s : Said) (least : ℕ) (code : List Line) : Type 0 where
@@ -89,7 +89,7 @@ coded_line chs all s least line later o grown e le c =
     let t = none_met (body_tests chs (list_any (knows s.labels) (one b.label)) now all line.fair b) e in
     let clean : IsClean chs all b.form = record { known = t.1.0; counted = t.1.1.0; channel = t.1.1.1.1.1.1.1.1.0; label = t.1.1.1.1.1.1.1.1.1.0 } in
     code_line chs all s least line (instr_in now.registers chs.names all b.form) later
-    (form_fact chs all now b.form clean o (known_fold (registers_in b.form) s.registers) grown)
+    (form_fact chs all now b.form (made_body line.words) clean o (known_fold (registers_in b.form) s.registers) grown)
     (λ is same. end_here now.done all.done (does b.form) (ends b.form) (is_some b.label) is same t.1.1.1.1.1.1.1.1.1.1.0)
     le c
 

@@ -4,7 +4,7 @@ use Rattle.std.specs.List.{list_all}
 use Rattle.std.proofs.lemmas.Bool.{or_parts, ltb-false}
 use Rattle.micro_isa.specs.Names.{name_test}
 use Rattle.asm_lines.specs.Cutting.{TextLine}
-use Rattle.asm_lines.specs.Limits.{most_registers, most_instructions}
+use Rattle.micro_isa.specs.declared.limits.TheConstants.{MOST_REGISTERS, MOST_INSTRUCTIONS}
 use Rattle.asm_lines.specs.Tables.{knows, misnamed, one}
 use Rattle.std.specs.List.{list_any}
 use Rattle.asm_lines.proofs.First.{none_met, none_at}
@@ -47,7 +47,7 @@ pub named : (chs : Channels) (lines : List TextLine) → lines_fault chs lines �
 named chs lines e = named_after chs (said_by lines) [] lines (record { labels = refl; registers = refl }) e
 
 -- a line without a fault has no register too many
-pub few_registers : (chs : Channels) (twice : Bool) (now all : Said) (fair : Bool) (b : Body) → body_fault chs twice now all fair b ≡ None → length now.registers ≤ most_registers
+pub few_registers : (chs : Channels) (twice : Bool) (now all : Said) (fair : Bool) (b : Body) → body_fault chs twice now all fair b ≡ None → length now.registers ≤ MOST_REGISTERS
 few_registers chs twice now all fair b e =
     let t = none_met (body_tests chs twice now all fair b) e in
-    ltb-false most_registers (length now.registers) (or_parts (nat_lt most_registers (length now.registers)) (nat_lt most_instructions now.done) t.1.1.1.1.1.0).0
+    ltb-false MOST_REGISTERS (length now.registers) (or_parts (nat_lt MOST_REGISTERS (length now.registers)) (nat_lt MOST_INSTRUCTIONS now.done) t.1.1.1.1.1.0).0

@@ -8,7 +8,7 @@ use Rattle.std.proofs.lemmas.List.{length-append}
 use Rattle.std.proofs.lemmas.List.Folds.{list_all-append}
 use Rattle.micro_isa.specs.Formed.{is_distinct, all_below, never_drops}
 use Rattle.asm_lines.specs.Cutting.{Words, TextLine}
-use Rattle.asm_lines.specs.Limits.{most_registers, most_instructions}
+use Rattle.micro_isa.specs.declared.limits.TheConstants.{MOST_REGISTERS, MOST_INSTRUCTIONS}
 use Rattle.asm_lines.specs.Tables.{knows, declare, one}
 use Rattle.asm_lines.proofs.First.{none_met, none_at}
 use Rattle.asm_lines.proofs.Known.{distinct_snoc, distinct_fold, other_word}
@@ -66,8 +66,8 @@ labels_with total done labels targets (Some name) l lt =
     in go (knows labels name) refl
 
 pub record IsOrderly (all s : Said) : Type 0 where
-  pub registers : length s.registers ≤ most_registers
-  pub done : s.done ≤ most_instructions
+  pub registers : length s.registers ≤ MOST_REGISTERS
+  pub done : s.done ≤ MOST_INSTRUCTIONS
   pub distinct : is_distinct bytes_eq s.registers ≡ true
   pub labels : AreLabels all.done s.done s.labels s.targets
 
@@ -92,10 +92,10 @@ orderly_line chs all s line o le e =
     let b = line_body line in
     let now = with_line s line in
     let t = none_met (body_tests chs (list_any (knows s.labels) (one b.label)) now all line.fair b) e in
-    let limits = or_parts (nat_lt most_registers (length now.registers)) (nat_lt most_instructions now.done) t.1.1.1.1.1.0 in
+    let limits = or_parts (nat_lt MOST_REGISTERS (length now.registers)) (nat_lt MOST_INSTRUCTIONS now.done) t.1.1.1.1.1.0 in
     record {
-      registers = ltb-false most_registers (length now.registers) limits.0;
-      done = ltb-false most_instructions now.done limits.1;
+      registers = ltb-false MOST_REGISTERS (length now.registers) limits.0;
+      done = ltb-false MOST_INSTRUCTIONS now.done limits.1;
       distinct = distinct_fold (registers_in b.form) s.registers o.distinct;
       labels = labels_later all.done s.done now.done now.labels now.targets (omega arith)
           (labels_with all.done s.done s.labels s.targets b.label o.labels (λ name is. before_end all s b name le t.1.1.1.1.1.1.1.1.1.1.0 is));

@@ -7,7 +7,7 @@ use Rattle.asm_lines.specs.declared.fault.BundleKind.{BundleKind}
 use Rattle.asm_lines.specs.declared.fault.BundleKind.TheVariants as kind
 use Rattle.asm_lines.specs.Cutting.{Words, TextLine}
 use Rattle.asm_lines.specs.Faults.{At, first_kind, at_or}
-use Rattle.asm_lines.specs.Limits.{most_registers, most_instructions}
+use Rattle.micro_isa.specs.declared.limits.TheConstants.{MOST_REGISTERS, MOST_INSTRUCTIONS}
 use Rattle.asm_lines.specs.Numbers.{is_no_number}
 use Rattle.asm_lines.specs.Tables.{knows, place_of, misnamed, one}
 use Rattle.asm_context.specs.Forms.{Body, is_unknown, is_miscounted, does, ends, registers_in, goes_to, receives_from, sends_to, number_in}
@@ -51,7 +51,7 @@ body_tests chs twice now all fair b =
     ∷ (is_miscounted b.form, kind.Operands)
     ∷ (is_misnamed b, kind.Name)
     ∷ (list_any is_no_number (one (number_in b.form)), kind.Number)
-    ∷ (nat_lt most_registers (length now.registers) || nat_lt most_instructions now.done, kind.Limit)
+    ∷ (nat_lt MOST_REGISTERS (length now.registers) || nat_lt MOST_INSTRUCTIONS now.done, kind.Limit)
     ∷ (twice, kind.LabelTwice)
     ∷ (is_stray chs (receives_from b.form) || is_stray chs (sends_to b.form), kind.ChannelUnknown)
     ∷ (gives_none chs (receives_from b.form) || takes_none chs (sends_to b.form), kind.ChannelKind)

@@ -2,4 +2,5 @@ pub mod Faults
 pub mod Forms
 pub mod Programs
 pub mod Said
+pub mod Spelt
 pub mod Views

@@ -1,15 +1,16 @@
 -- The program that a context's lines say, where they have no fault.
 use Rattle.std.specs.Prelude.{ℕ, ◌+◌, ◌++◌, List, [], ◌∷◌, Option, Some, None, slice_index}
 use Rattle.micro_isa.specs.declared.instr.Instr.{Instr}
-use Rattle.micro_isa.specs.declared.instr.Instr.TheVariants as instr
 use Rattle.micro_isa.specs.declared.program.VReg.{VReg}
 use Rattle.micro_isa.specs.declared.program.Line.{Line}
 use Rattle.micro_isa.specs.declared.program.Label.{Label}
 use Rattle.micro_isa.specs.declared.program.Program.{Program}
+use Rattle.micro_isa.specs.Operands.{instr_of}
 use Rattle.asm_lines.specs.Cutting.{Words, TextLine}
 use Rattle.asm_lines.specs.Numbers.{number_or}
 use Rattle.asm_lines.specs.Tables.{place_of}
-use Rattle.asm_context.specs.Forms.{Form, Li, Mov, Alu, Div, Ctx, Jmp, Branch, Load, Store, Yield, Recv, Send, Halt}
+use Rattle.asm_context.specs.Spelt.{each}
+use Rattle.asm_context.specs.Forms.{Form, Instruction}
 use Rattle.asm_context.specs.Said.{Said, with_line, line_body, said_by}
 
 -- the number of a register
@@ -22,19 +23,7 @@ target all label = slice_index all.targets (place_of all.labels label)
 
 -- the instruction of a line, where it has one, over registers, names of channels and what all lines say
 abbrev pub instr_in : Words → Words → Said → Form → Option (Instr VReg)
-instr_in rs chs all (Li to n) = Some (instr.Li (register rs to) (number_or n))
-instr_in rs chs all (Mov to from) = Some (instr.Mov (register rs to) (register rs from))
-instr_in rs chs all (Alu op to a b) = Some (instr.Alu op (register rs to) (register rs a) (register rs b))
-instr_in rs chs all (Div op to a b) = Some (instr.Div op (register rs to) (register rs a) (register rs b))
-instr_in rs chs all (Ctx to) = Some (instr.Ctx (register rs to))
-instr_in rs chs all (Jmp label) = Some (instr.Jmp (target all label))
-instr_in rs chs all (Branch holds a b label) = Some (instr.Branch holds (register rs a) (register rs b) (target all label))
-instr_in rs chs all (Load to address) = Some (instr.Load (register rs to) (register rs address))
-instr_in rs chs all (Store address from) = Some (instr.Store (register rs address) (register rs from))
-instr_in rs chs all Yield = Some instr.Yield
-instr_in rs chs all (Recv to channel) = Some (instr.Recv (register rs to) (place_of chs channel))
-instr_in rs chs all (Send channel from) = Some (instr.Send (place_of chs channel) (register rs from))
-instr_in rs chs all Halt = Some instr.Halt
+instr_in rs chs all (Instruction o x) = instr_of o (each (register rs) number_or (target all) (place_of chs) x)
 instr_in rs chs all _ = None
 
 -- an instruction with the line that it stands on

@@ -1,6 +1,10 @@
 -- What stands in the text, for values that lend it.
-use Rattle.std.specs.Prelude.{option_map}
+use Rattle.std.specs.Prelude.{ℕ, List, option_map}
+use Rattle.std.specs.Borrow.{Bor}
+use Rattle.micro_isa.specs.declared.operands.Extra.{Extra}
+use Rattle.micro_isa.specs.declared.operands.Operands.{Operands}
 use Rattle.asm_lines.specs.Tables.{words_seen}
+use Rattle.asm_context.specs.Spelt.{Spelt, each, each_extra}
 use Rattle.asm_context.specs.Forms as spec
 use Rattle.asm_context.specs.Said as lines
 use Rattle.asm_context.specs.declared.form.Form.{Form}
@@ -8,21 +12,15 @@ use Rattle.asm_context.specs.declared.form.Form.TheVariants as form
 use Rattle.asm_context.specs.declared.form.Body.{Body}
 use Rattle.asm_context.specs.declared.said.Said.{Said}
 
+abbrev pub seen_extra : Extra (Bor (List ℕ)) (Bor (List ℕ)) → Extra (List ℕ) (List ℕ)
+seen_extra x = each_extra (λ w. w.now) (λ w. w.now) (λ w. w.now) x
+
+abbrev pub seen_operands : Operands (Bor (List ℕ)) (Bor (List ℕ)) (Bor (List ℕ)) → Spelt
+seen_operands x = each (λ w. w.now) (λ w. w.now) (λ w. w.now) (λ w. w.now) x
+
 abbrev pub seen_form : Form → spec.Form
 seen_form form.Blank = spec.Blank
-seen_form (form.Li to n) = spec.Li to.now n.now
-seen_form (form.Mov to from) = spec.Mov to.now from.now
-seen_form (form.Alu op to a b) = spec.Alu op to.now a.now b.now
-seen_form (form.Div op to a b) = spec.Div op to.now a.now b.now
-seen_form (form.Ctx to) = spec.Ctx to.now
-seen_form (form.Jmp label) = spec.Jmp label.now
-seen_form (form.Branch holds a b label) = spec.Branch holds a.now b.now label.now
-seen_form (form.Load to address) = spec.Load to.now address.now
-seen_form (form.Store address from) = spec.Store address.now from.now
-seen_form form.Yield = spec.Yield
-seen_form (form.Recv to channel) = spec.Recv to.now channel.now
-seen_form (form.Send channel from) = spec.Send channel.now from.now
-seen_form form.Halt = spec.Halt
+seen_form (form.Instruction o x) = spec.Instruction o (seen_operands x)
 seen_form form.Miscounted = spec.Miscounted
 seen_form form.Unknown = spec.Unknown
 

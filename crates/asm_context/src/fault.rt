@@ -5,38 +5,29 @@ ghost use Rattle.asm_lines.specs.Numbers.{is_no_number};
 ghost use Rattle.asm_lines.specs.Tables.{words_seen, knows, misnamed, one};
 ghost use Rattle.asm_context.specs.Forms.{registers_in, number_in, goes_to};
 ghost use Rattle.asm_context.specs.Faults.{channels, is_misnamed, is_loose, gives_none, takes_none, body_fault};
-ghost use Rattle.asm_context.specs.Views.{seen_form, seen_body, seen_said};
+ghost use Rattle.asm_context.specs.Views.{seen_operands, seen_form, seen_body, seen_said};
+ghost use Rattle.micro_isa.specs.Columns.{registers};
 
-use crate::form::{Body, Form, does, ends, goes_to, receives_from, sends_to};
+use crate::form::{Body, Form, does, ends, extra_in, goes_to, receives_from, sends_to};
 use crate::said::Said;
-use asm_lines::{
-    BundleKind, MOST_INSTRUCTIONS, MOST_REGISTERS, is_misnamed, is_stray, place_of, word_number,
-};
+use crate::spelt::Spelt;
+use asm_lines::{BundleKind, is_misnamed, is_stray, place_of, word_number};
 use indexmap::IndexSet;
-use micro_isa::{Channel, is_name};
-
-fn are_misnamed(a: &[u8], b: &[u8]) -> bool
-    ensures { result ≡ misnamed (a.now ∷ b.now ∷ []) }
-{
-    !is_name(a) || !is_name(b)
-}
+use micro_isa::{Channel, Extra, MOST_INSTRUCTIONS, MOST_REGISTERS, gives_words, takes_words};
 
 fn has_bad_register(form: Form) -> bool
     ensures { result ≡ misnamed (registers_in (seen_form form.entry)) }
 {
     match form {
-        Form::Li { to, .. } => !is_name(to),
-        Form::Mov { to, from } => are_misnamed(to, from),
-        Form::Alu { to, a, b, .. } => !is_name(to) || are_misnamed(a, b),
-        Form::Div { to, a, b, .. } => !is_name(to) || are_misnamed(a, b),
-        Form::Ctx { to } => !is_name(to),
-        Form::Branch { a, b, .. } => are_misnamed(a, b),
-        Form::Load { to, address } => are_misnamed(to, address),
-        Form::Store { address, from } => are_misnamed(address, from),
-        Form::Recv { to, .. } => !is_name(to),
-        Form::Send { from, .. } => !is_name(from),
+        Form::Instruction { operands, .. } => are_misnamed(operands),
         _ => false,
     }
+}
+
+fn are_misnamed(operands: Spelt) -> bool
+    ensures { result ≡ misnamed (registers (seen_operands operands.entry)) }
+{
+    is_misnamed(operands.to) || is_misnamed(operands.a) || is_misnamed(operands.b)
 }
 
 fn has_bad_name(body: Body) -> bool
@@ -52,28 +43,8 @@ fn has_bad_name(body: Body) -> bool
 fn has_bad_number(form: Form) -> bool
     ensures { result ≡ list_any is_no_number (one (number_in (seen_form form.entry))) }
 {
-    match form {
-        Form::Li { n, .. } => word_number(n).is_none(),
-        _ => false,
-    }
-}
-
-fn gives_words(channel: Option<&Channel>) -> bool
-    ensures { result ≡ gives_words (option_map (λ c. c.now) channel.entry) }
-{
-    match channel {
-        Some(Channel::Inner { .. }) => true,
-        Some(Channel::Input { .. }) => true,
-        _ => false,
-    }
-}
-
-fn takes_words(channel: Option<&Channel>) -> bool
-    ensures { result ≡ takes_words (option_map (λ c. c.now) channel.entry) }
-{
-    match channel {
-        Some(Channel::Inner { .. }) => true,
-        Some(Channel::Output { .. }) => true,
+    match extra_in(form) {
+        Extra::Number(n) => word_number(n).is_none(),
         _ => false,
     }
 }
@@ -134,7 +105,7 @@ pub fn body_fault<'a>(
     if has_bad_number(body.form) {
         return Some(BundleKind::Number);
     }
-    if MOST_REGISTERS < now.registers.len() || MOST_INSTRUCTIONS < now.done {
+    if MOST_REGISTERS < now.registers.len() || MOST_INSTRUCTIONS < now.done as usize {
         return Some(BundleKind::Limit);
     }
     if twice {

@@ -3,10 +3,11 @@
 
 mod fault;
 mod form;
-mod mnemonic;
 mod program;
 mod reader;
 mod said;
+mod spelt;
 
 pub use form::is_instruction_line;
 pub use reader::read_context;
+pub use spelt::Spelt;

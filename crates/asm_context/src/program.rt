@@ -1,27 +1,30 @@
-ghost use Rattle.std.specs.Prelude.{◌≡◌, ◌++◌, ◌<◌, ◌≤◌, [], ◌∷◌, OnOk, IfOk, length, slice_index, true};
+ghost use Rattle.std.specs.Prelude.{◌≡◌, ◌++◌, ◌<◌, ◌≤◌, [], ◌∷◌, OnOk, IfOk, length, slice_index, option_map, true};
 ghost use Rattle.std.specs.List.{list_all};
 ghost use Rattle.micro_isa.specs.Names.{name_test};
-ghost use Rattle.asm_lines.specs.Limits.{most_channels, most_registers};
+ghost use Rattle.micro_isa.specs.declared.limits.TheConstants.{MOST_CHANNELS, MOST_REGISTERS};
 ghost use Rattle.asm_lines.specs.Tables.{words_seen, place_of};
 ghost use Rattle.asm_context.specs.Programs.{register, target, instr_in, on_line, labels_from};
-ghost use Rattle.asm_context.specs.Views.{seen_form, seen_said};
+ghost use Rattle.asm_context.specs.Views.{seen_extra, seen_operands, seen_form, seen_said};
+ghost use Rattle.asm_context.specs.Spelt.{each, each_extra};
+ghost use Rattle.asm_lines.specs.Numbers.{number_or};
 
 use crate::form::Form;
 use crate::said::Said;
+use crate::spelt::Spelt;
 use asm_lines::{name_of, number_or, place_of};
 use indexmap::IndexSet;
-use micro_isa::{Instr, Label, Line, List, NoMemory, VReg};
+use micro_isa::{Extra, Instr, Label, Line, List, NoMemory, Operands, VReg, instr_of};
 use std::alloc::Global;
 
 fn register<'a>(registers: &IndexSet<&'a [u8]>, name: &'a [u8]) -> VReg
-    requires { length registers.now.keys ≤ most_registers }
+    requires { length registers.now.keys ≤ MOST_REGISTERS }
     ensures { result ≡ register (words_seen registers.now.keys) name.now }
 {
     VReg(place_of(registers, name) as u16)
 }
 
 fn channel<'a>(names: &IndexSet<&'a [u8]>, name: &'a [u8]) -> u8
-    requires { length names.now.keys ≤ most_channels }
+    requires { length names.now.keys ≤ MOST_CHANNELS }
     ensures { result ≡ place_of (words_seen names.now.keys) name.now }
 {
     place_of(names, name) as u8
@@ -51,6 +54,52 @@ fn push_line(code: &mut List<Line>, instr: Instr<VReg>, line: u32) -> Result<(),
     }
 }
 
+fn register_if<'a>(registers: &IndexSet<&'a [u8]>, name: Option<&'a [u8]>) -> Option<VReg>
+    requires { length registers.now.keys ≤ MOST_REGISTERS }
+    ensures { result ≡ option_map (register (words_seen registers.now.keys)) (option_map (λ n. n.now) name.entry) }
+{
+    match name {
+        Some(name) => Some(register(registers, name)),
+        None => None,
+    }
+}
+
+fn extra<'a>(
+    names: &IndexSet<&'a [u8]>,
+    all: &Said<'a>,
+    extra: Extra<&'a [u8], &'a [u8]>,
+) -> Extra<u32, u8>
+    requires { length names.now.keys ≤ MOST_CHANNELS }
+    ensures { result ≡ each_extra number_or (target (seen_said all.now)) (place_of (words_seen names.now.keys)) (seen_extra extra.entry) }
+{
+    match extra {
+        Extra::Nothing => Extra::Nothing,
+        Extra::Number(n) => Extra::Number(number_or(n)),
+        Extra::Target(label) => Extra::Target(target(all, label)),
+        Extra::Receive(name) => Extra::Receive(channel(names, name)),
+        Extra::Send(name) => Extra::Send(channel(names, name)),
+    }
+}
+
+/// What the operands of a line name.
+fn operands<'a>(
+    registers: &IndexSet<&'a [u8]>,
+    names: &IndexSet<&'a [u8]>,
+    all: &Said<'a>,
+    spelt: Spelt<'a>,
+) -> Operands<VReg, u32, u8>
+    requires registers { length registers.now.keys ≤ MOST_REGISTERS }
+    requires channels { length names.now.keys ≤ MOST_CHANNELS }
+    ensures { result ≡ each (register (words_seen registers.now.keys)) number_or (target (seen_said all.now)) (place_of (words_seen names.now.keys)) (seen_operands spelt.entry) }
+{
+    Operands {
+        to: register_if(registers, spelt.to),
+        a: register_if(registers, spelt.a),
+        b: register_if(registers, spelt.b),
+        extra: extra(names, all, spelt.extra),
+    }
+}
+
 /// The instruction of a line, where it has one.
 fn instr_in<'a>(
     registers: &IndexSet<&'a [u8]>,
@@ -58,68 +107,15 @@ fn instr_in<'a>(
     all: &Said<'a>,
     form: Form<'a>,
 ) -> Option<Instr<VReg>>
-    requires registers { length registers.now.keys ≤ most_registers }
-    requires channels { length names.now.keys ≤ most_channels }
+    requires registers { length registers.now.keys ≤ MOST_REGISTERS }
+    requires channels { length names.now.keys ≤ MOST_CHANNELS }
     ensures { result ≡ instr_in (words_seen registers.now.keys) (words_seen names.now.keys) (seen_said all.now) (seen_form form.entry) }
 {
-    let rs = registers;
     match form {
-        Form::Li { to, n } => Some(Instr::Li {
-            to: register(rs, to),
-            n: number_or(n),
-        }),
-        Form::Mov { to, from } => Some(Instr::Mov {
-            to: register(rs, to),
-            from: register(rs, from),
-        }),
-        Form::Alu { op, to, a, b } => Some(Instr::Alu {
-            op,
-            to: register(rs, to),
-            a: register(rs, a),
-            b: register(rs, b),
-        }),
-        Form::Div { op, to, a, b } => Some(Instr::Div {
-            op,
-            to: register(rs, to),
-            a: register(rs, a),
-            b: register(rs, b),
-        }),
-        Form::Ctx { to } => Some(Instr::Ctx {
-            to: register(rs, to),
-        }),
-        Form::Jmp { label } => Some(Instr::Jmp {
-            target: target(all, label),
-        }),
-        Form::Branch { holds, a, b, label } => Some(Instr::Branch {
-            test: holds,
-            a: register(rs, a),
-            b: register(rs, b),
-            target: target(all, label),
-        }),
-        Form::Load { to, address } => Some(Instr::Load {
-            to: register(rs, to),
-            address: register(rs, address),
-        }),
-        Form::Store { address, from } => Some(Instr::Store {
-            address: register(rs, address),
-            from: register(rs, from),
-        }),
-        Form::Yield => Some(Instr::Yield),
-        Form::Recv {
-            to,
-            channel: channel_name,
-        } => Some(Instr::Recv {
-            to: register(rs, to),
-            channel: channel(names, channel_name),
-        }),
-        Form::Send {
-            channel: channel_name,
-            from,
-        } => Some(Instr::Send {
-            channel: channel(names, channel_name),
-            from: register(rs, from),
-        }),
-        Form::Halt => Some(Instr::Halt),
+        Form::Instruction {
+            operation,
+            operands: spelt,
+        } => instr_of(operation, operands(registers, names, all, spelt)),
         _ => None,
     }
 }
@@ -133,8 +129,8 @@ pub fn push_code<'a>(
     all: &Said<'a>,
     form: Form<'a>,
 ) -> Result<(), NoMemory>
-    requires registers { length registers.now.keys ≤ most_registers }
-    requires channels { length names.now.keys ≤ most_channels }
+    requires registers { length registers.now.keys ≤ MOST_REGISTERS }
+    requires channels { length names.now.keys ≤ MOST_CHANNELS }
     ensures { OnOk result (code.new ≡ code.old ++ on_line line (instr_in (words_seen registers.now.keys) (words_seen names.now.keys) (seen_said all.now) (seen_form form.entry))) }
 {
     match instr_in(registers, names, all, form) {

@@ -2,7 +2,7 @@ ghost use Rattle.std.specs.Prelude.{◌≡◌, ◌++◌, ◌<◌, ◌≤◌, [],
 ghost use Rattle.std.specs.List.{list_all};
 ghost use Rattle.micro_isa.specs.Names.{IsName, name_test};
 ghost use Rattle.asm_lines.specs.Faults.{Causes, at_or};
-ghost use Rattle.asm_lines.specs.Limits.{most_channels};
+ghost use Rattle.micro_isa.specs.declared.limits.TheConstants.{MOST_CHANNELS};
 ghost use Rattle.asm_lines.specs.Tables.{words_seen};
 ghost use Rattle.asm_context.specs.Faults.{channels, line_fault, lines_fault};
 ghost use Rattle.asm_context.specs.Programs.{line_code, code_of, labels_from, program_of};
@@ -28,7 +28,7 @@ fn read_line<'a>(
     row: &Row<'a>,
 ) -> Result<(), BundleFault>
     requires done { now.old.done < 4294967295 }
-    requires channels { length names.now.keys ≤ most_channels }
+    requires channels { length names.now.keys ≤ MOST_CHANNELS }
     ensures said { OnOk result (seen_said now.new ≡ with_line (seen_said now.old) row.now) }
     ensures fine { OnOk result (line_fault (channels (words_seen names.now.keys) kinds.now) (seen_said now.old) (seen_said all.now) row.now ≡ None) }
     ensures code { OnOk result (code.new ≡ code.old ++ line_code (words_seen names.now.keys) (seen_said now.old) (seen_said all.now) row.now) }
@@ -61,7 +61,7 @@ fn read_lines<'a>(
 ) -> Result<List<Line>, BundleFault>
     requires said { seen_said all.now ≡ said_by rows.now }
     requires rows { length rows.now < 4294967295 }
-    requires channels { length names.now.keys ≤ most_channels }
+    requires channels { length names.now.keys ≤ MOST_CHANNELS }
     ensures free { OnOk result (lines_fault (channels (words_seen names.now.keys) kinds.now) rows.now ≡ None) }
     ensures code { IfOk result (λ code. code ≡ code_of (words_seen names.now.keys) rows.now) }
     ensures cause { IfErr result (λ why. Causes why (lines_fault (channels (words_seen names.now.keys) kinds.now) rows.now)) }
@@ -110,7 +110,7 @@ pub fn read_context<'a>(
 ) -> Result<Program, BundleFault>
     requires name { IsName name.now }
     requires rows { length rows.now < 4294967295 }
-    requires channels { length names.now.keys ≤ most_channels }
+    requires channels { length names.now.keys ≤ MOST_CHANNELS }
     ensures free { OnOk result (lines_fault (channels (words_seen names.now.keys) kinds.now) rows.now ≡ None) }
     ensures program { IfOk result (λ p. p ≡ program_of (words_seen names.now.keys) name.now rows.now) }
     ensures cause { IfErr result (λ why. Causes why (lines_fault (channels (words_seen names.now.keys) kinds.now) rows.now)) }

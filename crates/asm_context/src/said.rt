@@ -2,9 +2,11 @@ ghost use Rattle.std.specs.Prelude.{◌≡◌, ◌+◌, ◌<◌, OnOk, IfOk, fol
 ghost use Rattle.asm_lines.specs.Tables.{words_seen, knows, declare, one};
 ghost use Rattle.asm_context.specs.Forms.{does, registers_in};
 ghost use Rattle.asm_context.specs.Said.{nothing, targets_after, count, with_body, said_by};
-ghost use Rattle.asm_context.specs.Views.{seen_form, seen_body, seen_said};
+ghost use Rattle.asm_context.specs.Views.{seen_operands, seen_form, seen_body, seen_said};
+ghost use Rattle.micro_isa.specs.Columns.{registers};
 
 use crate::form::{Body, Form, body_of, does};
+use crate::spelt::Spelt;
 use asm_lines::{Row, declare};
 use indexmap::IndexSet;
 use micro_isa::NoMemory;
@@ -53,49 +55,30 @@ fn note_label<'a>(
     Ok(())
 }
 
-fn declare_two<'a>(names: &mut IndexSet<&'a [u8]>, a: &'a [u8], b: &'a [u8]) -> Result<(), NoMemory>
-    ensures { OnOk result (words_seen names.new.keys ≡ declare (declare (words_seen names.old.keys) a.now) b.now) }
-{
-    declare(names, a)?;
-    declare(names, b)?;
-    Ok(())
-}
-
-fn declare_one<'a>(names: &mut IndexSet<&'a [u8]>, name: &'a [u8]) -> Result<(), NoMemory>
-    ensures { OnOk result (words_seen names.new.keys ≡ declare (words_seen names.old.keys) name.now) }
-{
-    declare(names, name)?;
-    Ok(())
-}
-
-fn declare_three<'a>(
-    names: &mut IndexSet<&'a [u8]>,
-    to: &'a [u8],
-    a: &'a [u8],
-    b: &'a [u8],
-) -> Result<(), NoMemory>
-    ensures { OnOk result (words_seen names.new.keys ≡ declare (declare (declare (words_seen names.old.keys) to.now) a.now) b.now) }
-{
-    declare(names, to)?;
-    declare_two(names, a, b)
-}
-
 fn note_registers<'a>(registers: &mut IndexSet<&'a [u8]>, form: Form<'a>) -> Result<(), NoMemory>
     ensures { OnOk result (words_seen registers.new.keys ≡ fold declare (words_seen registers.old.keys) (registers_in (seen_form form.entry))) }
 {
     match form {
-        Form::Li { to, .. } => declare_one(registers, to),
-        Form::Mov { to, from } => declare_two(registers, to, from),
-        Form::Alu { to, a, b, .. } => declare_three(registers, to, a, b),
-        Form::Div { to, a, b, .. } => declare_three(registers, to, a, b),
-        Form::Ctx { to } => declare_one(registers, to),
-        Form::Branch { a, b, .. } => declare_two(registers, a, b),
-        Form::Load { to, address } => declare_two(registers, to, address),
-        Form::Store { address, from } => declare_two(registers, address, from),
-        Form::Recv { to, .. } => declare_one(registers, to),
-        Form::Send { from, .. } => declare_one(registers, from),
+        Form::Instruction { operands, .. } => note_operands(registers, operands),
         _ => Ok(()),
     }
+}
+
+fn note_operands<'a>(names: &mut IndexSet<&'a [u8]>, operands: Spelt<'a>) -> Result<(), NoMemory>
+    ensures { OnOk result (words_seen names.new.keys ≡ fold declare (words_seen names.old.keys) (registers (seen_operands operands.entry))) }
+{
+    note_name(names, operands.to)?;
+    note_name(names, operands.a)?;
+    note_name(names, operands.b)
+}
+
+fn note_name<'a>(names: &mut IndexSet<&'a [u8]>, name: Option<&'a [u8]>) -> Result<(), NoMemory>
+    ensures { OnOk result (words_seen names.new.keys ≡ fold declare (words_seen names.old.keys) (one (option_map (λ n. n.now) name.entry))) }
+{
+    if let Some(name) = name {
+        declare(names, name)?;
+    }
+    Ok(())
 }
 
 fn counted(done: u32, form: Form) -> u32

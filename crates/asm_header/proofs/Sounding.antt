@@ -12,7 +12,7 @@ use Rattle.micro_isa.specs.declared.program.Channel.TheVariants as channel
 use Rattle.micro_isa.specs.Names.{name_test}
 use Rattle.micro_isa.specs.Formed.{is_distinct, all_below, has_formed_ring, port_of, initial_count}
 use Rattle.asm_lines.specs.Cutting.{TextLine}
-use Rattle.asm_lines.specs.Limits.{most_channels, most_initial_words, largest_file, largest_memory, largest_ring, ports}
+use Rattle.micro_isa.specs.declared.limits.TheConstants.{MOST_CHANNELS, MOST_INITIAL_WORDS, MOST_FILE, MOST_MEMORY, MOST_RING, MOST_PORTS}
 use Rattle.asm_lines.specs.Numbers.{number_or}
 use Rattle.asm_lines.specs.Tables.{knows, place_of, declare}
 use Rattle.asm_lines.proofs.First.{none_met, none_at}
@@ -46,10 +46,10 @@ not_false false e = absurd (true≢false e)
 record IsAdded (h : Header) (name : List ℕ) (c : Channel) : Type 0 where
   is_name : name_test name ≡ true
   is_new : knows h.names name ≡ false
-  room : length h.names < most_channels
+  room : length h.names < MOST_CHANNELS
   ring : has_formed_ring c ≡ true
   none : initial_count c ≡ 0
-  port : (p : ℕ) → port_of c ≡ Some p → (p < ports) × (list_any (nat_eq p) (filter_map port_of h.channels) ≡ false)
+  port : (p : ℕ) → port_of c ≡ Some p → (p < MOST_PORTS) × (list_any (nat_eq p) (filter_map port_of h.channels) ≡ false)
 
 sum_snoc : (xs : List ℕ) (x : ℕ) → sum (xs ++ x ∷ []) ≡ sum xs + x
 sum_snoc [] x = omega (arith, sum_cons x [])
@@ -62,14 +62,14 @@ a_port : (c : Channel) (p : ℕ) → port_of c ≡ Some p → filter_map port_of
 a_port c p e = rw e refl
 
 -- the ports with that of one more channel
-ports_snoc : (chs : List Channel) (c : Channel) (o : Option ℕ) → port_of c ≡ o → ((p : ℕ) → o ≡ Some p → (p < ports) × (list_any (nat_eq p) (filter_map port_of chs) ≡ false)) → all_below ports (filter_map port_of chs) ≡ true → is_distinct nat_eq (filter_map port_of chs) ≡ true → (all_below ports (filter_map port_of (chs ++ c ∷ [])) ≡ true) × (is_distinct nat_eq (filter_map port_of (chs ++ c ∷ [])) ≡ true)
+ports_snoc : (chs : List Channel) (c : Channel) (o : Option ℕ) → port_of c ≡ o → ((p : ℕ) → o ≡ Some p → (p < MOST_PORTS) × (list_any (nat_eq p) (filter_map port_of chs) ≡ false)) → all_below MOST_PORTS (filter_map port_of chs) ≡ true → is_distinct nat_eq (filter_map port_of chs) ≡ true → (all_below MOST_PORTS (filter_map port_of (chs ++ c ∷ [])) ≡ true) × (is_distinct nat_eq (filter_map port_of (chs ++ c ∷ [])) ≡ true)
 ports_snoc chs c None e free below apart =
     let same : filter_map port_of (chs ++ c ∷ []) ≡ filter_map port_of chs = filter_map-append port_of chs (c ∷ []) ∙ ap (λ l. filter_map port_of chs ++ l) (no_port c e) ∙ append-nil (filter_map port_of chs) in
-    (ap (all_below ports) same ∙ below, ap (is_distinct nat_eq) same ∙ apart)
+    (ap (all_below MOST_PORTS) same ∙ below, ap (is_distinct nat_eq) same ∙ apart)
 ports_snoc chs c (Some p) e free below apart =
     let same : filter_map port_of (chs ++ c ∷ []) ≡ filter_map port_of chs ++ p ∷ [] = filter_map-append port_of chs (c ∷ []) ∙ ap (λ l. filter_map port_of chs ++ l) (a_port c p e) in
     let ok = free p refl in (
-      ap (all_below ports) same ∙ list_all-append (λ x. nat_lt x ports) (filter_map port_of chs) (p ∷ []) ∙ and_from (all_below ports (filter_map port_of chs)) (nat_lt p ports && true) below (and_from (nat_lt p ports) true (lt-ltb p ports ok.0) refl),
+      ap (all_below MOST_PORTS) same ∙ list_all-append (λ x. nat_lt x MOST_PORTS) (filter_map port_of chs) (p ∷ []) ∙ and_from (all_below MOST_PORTS (filter_map port_of chs)) (nat_lt p MOST_PORTS && true) below (and_from (nat_lt p MOST_PORTS) true (lt-ltb p MOST_PORTS ok.0) refl),
       ap (is_distinct nat_eq) same ∙ distinct_snoc nat_eq other_number (filter_map port_of chs) p apart ok.1,
     )
 
@@ -120,14 +120,14 @@ port_part true b e = absurd (true≢false e)
 port_part false true e = absurd (true≢false e)
 port_part false false e = (refl, refl)
 
-has_room : (h : Header) → nat_le most_channels (length h.names) ≡ false → length h.names < most_channels
-has_room h e = leb-false most_channels (length h.names) e
+has_room : (h : Header) → nat_le MOST_CHANNELS (length h.names) ≡ false → length h.names < MOST_CHANNELS
+has_room h e = leb-false MOST_CHANNELS (length h.names) e
 
 -- a port that is free
-free_port : (h : Header) (port : List ℕ) → (is_bad_port h.channels (number_or port) || false) ≡ false → (p : ℕ) → Some (number_or port) ≡ Some p → (p < ports) × (list_any (nat_eq p) (filter_map port_of h.channels) ≡ false)
+free_port : (h : Header) (port : List ℕ) → (is_bad_port h.channels (number_or port) || false) ≡ false → (p : ℕ) → Some (number_or port) ≡ Some p → (p < MOST_PORTS) × (list_any (nat_eq p) (filter_map port_of h.channels) ≡ false)
 free_port h port e p same =
-    let parts = port_part (nat_le ports (number_or port)) (list_any (nat_eq (number_or port)) (filter_map port_of h.channels)) e in
-    subst (λ p. (p < ports) × (list_any (nat_eq p) (filter_map port_of h.channels) ≡ false)) (same_Some (number_or port) p same) (leb-false ports (number_or port) parts.0, parts.1)
+    let parts = port_part (nat_le MOST_PORTS (number_or port)) (list_any (nat_eq (number_or port)) (filter_map port_of h.channels)) e in
+    subst (λ p. (p < MOST_PORTS) × (list_any (nat_eq p) (filter_map port_of h.channels) ≡ false)) (same_Some (number_or port) p same) (leb-false MOST_PORTS (number_or port) parts.0, parts.1)
 
 pub port_fits : (h : Header) (fair : Bool) (form : HeaderForm) → form_fault h fair form ≡ None → PortFits form
 port_fits h fair (PortInput name port capacity) e = (free_port h port (none_met (form_tests h fair (PortInput name port capacity)) e).1.1.1.1.1.1.0 (number_or port) refl).0
@@ -140,10 +140,10 @@ no_port_at p e = absurd (cc)
 pub sound_form : (h : Header) (fair : Bool) (form : HeaderForm) → IsSound h → form_fault h fair form ≡ None → IsSound (with_form h form)
 sound_form h fair (File size) s e =
     let t = none_met (form_tests h fair (File size)) e in
-    let range = and_parts (nat_le 1 (number_or size)) (nat_le (number_or size) largest_file) (size_part (is_from 1 largest_file size) t.1.1.1.1.1.0) in
-    let is : (1 ≤ number_or size) × (number_or size ≤ largest_file) = (leb-true 1 (number_or size) range.0, leb-true (number_or size) largest_file range.1) in
+    let range = and_parts (nat_le 1 (number_or size)) (nat_le (number_or size) MOST_FILE) (size_part (is_from 1 MOST_FILE size) t.1.1.1.1.1.0) in
+    let is : (1 ≤ number_or size) × (number_or size ≤ MOST_FILE) = (leb-true 1 (number_or size) range.0, leb-true (number_or size) MOST_FILE range.1) in
     record {
-      file = λ n same. subst (λ n. (1 ≤ n) × (n ≤ largest_file)) (same_Some (number_or size) n same) is;
+      file = λ n same. subst (λ n. (1 ≤ n) × (n ≤ MOST_FILE)) (same_Some (number_or size) n same) is;
       memory = s.memory;
       few = s.few;
       same = s.same;
@@ -157,11 +157,11 @@ sound_form h fair (File size) s e =
     }
 sound_form h fair (Memory size) s e =
     let t = none_met (form_tests h fair (Memory size)) e in
-    let range = and_parts (nat_le 0 (number_or size)) (nat_le (number_or size) largest_memory) (size_part (is_from 0 largest_memory size) t.1.1.1.1.1.0) in
-    let is = leb-true (number_or size) largest_memory range.1 in
+    let range = and_parts (nat_le 0 (number_or size)) (nat_le (number_or size) MOST_MEMORY) (size_part (is_from 0 MOST_MEMORY size) t.1.1.1.1.1.0) in
+    let is = leb-true (number_or size) MOST_MEMORY range.1 in
     record {
       file = s.file;
-      memory = λ n same. subst (λ n. n ≤ largest_memory) (same_Some (number_or size) n same) is;
+      memory = λ n same. subst (λ n. n ≤ MOST_MEMORY) (same_Some (number_or size) n same) is;
       few = s.few;
       same = s.same;
       named = s.named;
@@ -174,7 +174,7 @@ sound_form h fair (Memory size) s e =
     }
 sound_form h fair (Inner name capacity) s e =
     let t = none_met (form_tests h fair (Inner name capacity)) e in
-    let limits = ring_part (is_from 1 largest_ring capacity) (nat_le most_channels (length h.names)) t.1.1.1.1.1.0 in
+    let limits = ring_part (is_from 1 MOST_RING capacity) (nat_le MOST_CHANNELS (length h.names)) t.1.1.1.1.1.0 in
     sound_added h name (channel.Inner (number_or capacity)) s (record {
       is_name = name_part (name_test name) t.1.1.1.0;
       is_new = first_of (knows h.names name) t.1.1.1.1.1.1.1.0;
@@ -188,14 +188,14 @@ sound_form h fair (Input name) s e =
     sound_added h name (channel.Input [] None) s (record {
       is_name = name_part (name_test name) t.1.1.1.0;
       is_new = first_of (knows h.names name) t.1.1.1.1.1.1.1.0;
-      room = has_room h (first_of (nat_le most_channels (length h.names)) t.1.1.1.1.1.0);
+      room = has_room h (first_of (nat_le MOST_CHANNELS (length h.names)) t.1.1.1.1.1.0);
       ring = refl;
       none = refl;
       port = λ p same. no_port_at p same;
     })
 sound_form h fair (PortInput name port capacity) s e =
     let t = none_met (form_tests h fair (PortInput name port capacity)) e in
-    let limits = ring_part (is_from 1 largest_ring capacity) (nat_le most_channels (length h.names)) t.1.1.1.1.1.0 in
+    let limits = ring_part (is_from 1 MOST_RING capacity) (nat_le MOST_CHANNELS (length h.names)) t.1.1.1.1.1.0 in
     sound_added h name (channel.Input [] (Some (record { number = number_or port; capacity = number_or capacity }))) s (record {
       is_name = name_part (name_test name) t.1.1.1.0;
       is_new = first_of (knows h.names name) t.1.1.1.1.1.1.1.0;
@@ -209,7 +209,7 @@ sound_form h fair (Output name) s e =
     sound_added h name (channel.Output None) s (record {
       is_name = name_part (name_test name) t.1.1.1.0;
       is_new = first_of (knows h.names name) t.1.1.1.1.1.1.1.0;
-      room = has_room h (first_of (nat_le most_channels (length h.names)) t.1.1.1.1.1.0);
+      room = has_room h (first_of (nat_le MOST_CHANNELS (length h.names)) t.1.1.1.1.1.0);
       ring = refl;
       none = refl;
       port = λ p same. no_port_at p same;
@@ -219,7 +219,7 @@ sound_form h fair (PortOutput name port) s e =
     sound_added h name (channel.Output (Some (number_or port))) s (record {
       is_name = name_part (name_test name) t.1.1.1.0;
       is_new = first_of (knows h.names name) t.1.1.1.1.1.1.1.0;
-      room = has_room h (first_of (nat_le most_channels (length h.names)) t.1.1.1.1.1.0);
+      room = has_room h (first_of (nat_le MOST_CHANNELS (length h.names)) t.1.1.1.1.1.0);
       ring = refl;
       none = refl;
       port = free_port h port t.1.1.1.1.1.1.0;
@@ -229,7 +229,7 @@ sound_form h fair (Initial name numbers) s e =
     let at = place_of h.names name in
     let more = map number_or numbers in
     let is = size_part (is_input (slice_get h.channels at)) t.1.1.1.1.1.1.1.1.1.0 in
-    let fits = ltb-false most_initial_words (h.words + length numbers) (first_of (nat_lt most_initial_words (h.words + length numbers)) t.1.1.1.1.1.0) in
+    let fits = ltb-false MOST_INITIAL_WORDS (h.words + length numbers) (first_of (nat_lt MOST_INITIAL_WORDS (h.words + length numbers)) t.1.1.1.1.1.0) in
     record {
       file = s.file;
       memory = s.memory;
@@ -238,7 +238,7 @@ sound_form h fair (Initial name numbers) s e =
       named = s.named;
       distinct = s.distinct;
       rings = filled_rings h.channels at more ∙ s.rings;
-      ports = ap (all_below ports) (filled_ports h.channels at more) ∙ s.ports;
+      ports = ap (all_below MOST_PORTS) (filled_ports h.channels at more) ∙ s.ports;
       apart = ap (is_distinct nat_eq) (filled_ports h.channels at more) ∙ s.apart;
       counted = omega (arith, filled_count h.channels at more is, s.counted, length-map numbers number_or);
       words = fits;

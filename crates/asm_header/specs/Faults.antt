@@ -8,7 +8,7 @@ use Rattle.asm_lines.specs.declared.fault.BundleKind.{BundleKind}
 use Rattle.asm_lines.specs.declared.fault.BundleKind.TheVariants as kind
 use Rattle.asm_lines.specs.Cutting.{TextLine}
 use Rattle.asm_lines.specs.Faults.{At, first_kind, at_or}
-use Rattle.asm_lines.specs.Limits.{most_channels, most_initial_words, largest_file, largest_memory, largest_ring, ports}
+use Rattle.micro_isa.specs.declared.limits.TheConstants.{MOST_CHANNELS, MOST_INITIAL_WORDS, MOST_FILE, MOST_MEMORY, MOST_RING, MOST_PORTS}
 use Rattle.asm_lines.specs.Numbers.{number_or, is_no_number}
 use Rattle.asm_lines.specs.Tables.{knows, place_of, misnamed, one}
 use Rattle.asm_header.specs.Forms.{HeaderForm, File, Memory, Initial, header_form, is_unknown, is_miscounted, makes, fills, numbers_in, ring_in, port_in}
@@ -19,21 +19,21 @@ is_from least most word = nat_le least (number_or word) && nat_le (number_or wor
 
 -- a size of the file or of memory outside its range, or too many initial words
 abbrev pub is_size_past : Header → HeaderForm → Bool
-is_size_past h (File size) = not (is_from 1 largest_file size)
-is_size_past h (Memory size) = not (is_from 0 largest_memory size)
-is_size_past h (Initial name numbers) = nat_lt most_initial_words (h.words + length numbers)
+is_size_past h (File size) = not (is_from 1 MOST_FILE size)
+is_size_past h (Memory size) = not (is_from 0 MOST_MEMORY size)
+is_size_past h (Initial name numbers) = nat_lt MOST_INITIAL_WORDS (h.words + length numbers)
 is_size_past h _ = false
 
 -- a size outside its range, a ring's capacity too, or one channel too many
 abbrev pub is_past_limit : Header → HeaderForm → Bool
 is_past_limit h form =
     is_size_past h form
-    || (list_any (λ capacity. not (is_from 1 largest_ring capacity)) (ring_in form)
-    || list_any (λ name. nat_le most_channels (length h.names)) (one (makes form)))
+    || (list_any (λ capacity. not (is_from 1 MOST_RING capacity)) (ring_in form)
+    || list_any (λ name. nat_le MOST_CHANNELS (length h.names)) (one (makes form)))
 
 -- a number that is no port's, or that of an earlier channel's port
 abbrev pub is_bad_port : List Channel → ℕ → Bool
-is_bad_port channels port = nat_le ports port || list_any (nat_eq port) (filter_map port_of channels)
+is_bad_port channels port = nat_le MOST_PORTS port || list_any (nat_eq port) (filter_map port_of channels)
 
 -- a second size, or a channel of an earlier name
 abbrev pub is_repeated : Header → HeaderForm → Bool

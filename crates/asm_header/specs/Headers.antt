@@ -4,7 +4,7 @@ use Rattle.micro_isa.specs.declared.program.Channel.{Channel}
 use Rattle.micro_isa.specs.declared.program.Channel.TheVariants as channel
 use Rattle.micro_isa.specs.declared.program.Setting.{Setting}
 use Rattle.asm_lines.specs.Cutting.{Words, TextLine}
-use Rattle.asm_lines.specs.Limits.{ports}
+use Rattle.micro_isa.specs.declared.limits.TheConstants.{MOST_PORTS}
 use Rattle.asm_lines.specs.Numbers.{number_or}
 use Rattle.asm_lines.specs.Tables.{declare, place_of, one}
 use Rattle.asm_header.specs.Forms.{HeaderForm, File, Memory, Inner, Input, PortInput, Output, PortOutput, Initial, header_form, makes}
@@ -32,8 +32,8 @@ made_by _ = None
 
 -- a channel's port number is below 16
 abbrev pub PortFits : HeaderForm → Type 0
-PortFits (PortInput name port capacity) = number_or port < ports
-PortFits (PortOutput name port) = number_or port < ports
+PortFits (PortInput name port capacity) = number_or port < MOST_PORTS
+PortFits (PortOutput name port) = number_or port < MOST_PORTS
 PortFits _ = Unit {0}
 
 -- an input with more initial words

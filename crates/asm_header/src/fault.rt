@@ -1,7 +1,6 @@
 ghost use Rattle.std.specs.Prelude.{◌≡◌, ◌≤◌, ◌||◌, [], ◌∷◌, nat_eq, not, nat_le, length, slice_get, option_map};
 ghost use Rattle.std.specs.List.{list_any, filter_map};
 ghost use Rattle.micro_isa.specs.Formed.{port_of};
-ghost use Rattle.asm_lines.specs.Limits.{most_channels, most_initial_words, largest_ring};
 ghost use Rattle.asm_lines.specs.Numbers.{number_or, is_no_number};
 ghost use Rattle.asm_lines.specs.Tables.{words_seen, place_of, one};
 ghost use Rattle.asm_header.specs.Forms.{makes, fills, numbers_in, ring_in, port_in};
@@ -10,12 +9,12 @@ ghost use Rattle.asm_header.specs.Views.{seen_form, seen_header};
 
 use crate::form::{HeaderForm, fills, makes};
 use crate::header::Header;
-use asm_lines::{
-    BundleKind, LARGEST_FILE, LARGEST_MEMORY, LARGEST_RING, MOST_CHANNELS, MOST_INITIAL_WORDS,
-    PORTS, has_name, is_misnamed, is_stray, number_or, place_of, word_number,
-};
+use asm_lines::{BundleKind, has_name, is_misnamed, is_stray, number_or, place_of, word_number};
 use indexmap::IndexSet;
-use micro_isa::Channel;
+use micro_isa::{
+    Channel, MOST_CHANNELS, MOST_FILE, MOST_INITIAL_WORDS, MOST_MEMORY, MOST_PORTS, MOST_RING,
+    port_of,
+};
 
 fn is_no_number(word: &[u8]) -> bool
     ensures { result ≡ is_no_number word.now }
@@ -58,29 +57,29 @@ fn is_from(least: u32, most: u32, word: &[u8]) -> bool
 }
 
 fn is_size_past(header: &Header, form: HeaderForm) -> bool
-    requires { header.now.words ≤ most_initial_words }
+    requires { header.now.words ≤ MOST_INITIAL_WORDS }
     ensures { result ≡ is_size_past (seen_header header.now) (seen_form form.entry) }
 {
     match form {
-        HeaderForm::File { size } => !is_from(1, LARGEST_FILE, size),
-        HeaderForm::Memory { size } => !is_from(0, LARGEST_MEMORY, size),
+        HeaderForm::File { size } => !is_from(1, MOST_FILE, size),
+        HeaderForm::Memory { size } => !is_from(0, MOST_MEMORY, size),
         HeaderForm::Initial { numbers, .. } => MOST_INITIAL_WORDS < header.words + numbers.len(),
         _ => false,
     }
 }
 
 fn has_bad_ring(form: HeaderForm) -> bool
-    ensures { result ≡ list_any (λ capacity. not (is_from 1 largest_ring capacity)) (ring_in (seen_form form.entry)) }
+    ensures { result ≡ list_any (λ capacity. not (is_from 1 MOST_RING capacity)) (ring_in (seen_form form.entry)) }
 {
     match form {
-        HeaderForm::Inner { capacity, .. } => !is_from(1, LARGEST_RING, capacity),
-        HeaderForm::PortInput { capacity, .. } => !is_from(1, LARGEST_RING, capacity),
+        HeaderForm::Inner { capacity, .. } => !is_from(1, MOST_RING, capacity),
+        HeaderForm::PortInput { capacity, .. } => !is_from(1, MOST_RING, capacity),
         _ => false,
     }
 }
 
 fn is_one_too_many(names: &IndexSet<&[u8]>, made: Option<&[u8]>) -> bool
-    ensures { result ≡ list_any (λ name. nat_le most_channels (length (words_seen names.now.keys))) (one (option_map (λ n. n.now) made.entry)) }
+    ensures { result ≡ list_any (λ name. nat_le MOST_CHANNELS (length (words_seen names.now.keys))) (one (option_map (λ n. n.now) made.entry)) }
 {
     match made {
         Some(_) => MOST_CHANNELS <= names.len(),
@@ -89,24 +88,10 @@ fn is_one_too_many(names: &IndexSet<&[u8]>, made: Option<&[u8]>) -> bool
 }
 
 fn is_past_limit(header: &Header, form: HeaderForm) -> bool
-    requires { header.now.words ≤ most_initial_words }
+    requires { header.now.words ≤ MOST_INITIAL_WORDS }
     ensures { result ≡ is_past_limit (seen_header header.now) (seen_form form.entry) }
 {
     is_size_past(header, form) || has_bad_ring(form) || is_one_too_many(&header.names, makes(form))
-}
-
-fn port_of(channel: &Channel) -> Option<u8>
-    ensures { result ≡ port_of channel.now }
-{
-    match channel {
-        Channel::Inner { .. } => None,
-        Channel::Input { port: None, .. } => None,
-        Channel::Input {
-            port: Some(port),
-            ..
-        } => Some(port.number),
-        Channel::Output { port } => *port,
-    }
 }
 
 fn is_port_of(channel: &Channel, port: u32) -> bool
@@ -133,7 +118,7 @@ fn is_bad_port(channels: &[Channel], port: &[u8]) -> bool
     ensures { result ≡ is_bad_port channels.now (number_or port.now) }
 {
     let port = number_or(port);
-    PORTS <= port || is_taken(channels, port)
+    MOST_PORTS <= port as usize || is_taken(channels, port)
 }
 
 fn has_bad_port(channels: &[Channel], form: HeaderForm) -> bool
@@ -180,7 +165,7 @@ pub fn form_fault<'a>(
     fair: bool,
     form: HeaderForm<'a, '_>,
 ) -> Option<BundleKind>
-    requires { header.now.words ≤ most_initial_words }
+    requires { header.now.words ≤ MOST_INITIAL_WORDS }
     ensures { result ≡ form_fault (seen_header header.now) fair (seen_form form.entry) }
 {
     if !fair {

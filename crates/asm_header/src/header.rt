@@ -1,5 +1,5 @@
 ghost use Rattle.std.specs.Prelude.{◌≡◌, ◌+◌, ◌++◌, ◌<◌, ◌≤◌, ◌^◌, [], ◌∷◌, OnOk, Some, None, map, fold, length};
-ghost use Rattle.asm_lines.specs.Limits.{most_initial_words, ports};
+ghost use Rattle.micro_isa.specs.declared.limits.TheConstants.{MOST_INITIAL_WORDS, MOST_PORTS};
 ghost use Rattle.asm_lines.specs.Numbers.{number_or};
 ghost use Rattle.asm_lines.specs.Tables.{words_seen, declare, place_of, one};
 ghost use Rattle.asm_header.specs.Headers.{no_header, filled, filled_at, with_made, with_form, PortFits};
@@ -82,14 +82,14 @@ fn add_channel<'a>(
 }
 
 fn port_number(port: &[u8]) -> u8
-    requires { number_or port.now < ports }
+    requires { number_or port.now < MOST_PORTS }
     ensures { result ≡ number_or port.now }
 {
     number_or(port) as u8
 }
 
 fn port_input(alloc: Global, port: &[u8], capacity: &[u8]) -> Channel
-    requires { number_or port.now < ports }
+    requires { number_or port.now < MOST_PORTS }
     ensures { result ≡ channel_of.Input [] (Some (record { number = number_or port.now; capacity = number_or capacity.now })) }
 {
     Channel::Input {
@@ -108,7 +108,7 @@ pub fn note<'a>(
     form: HeaderForm<'a, '_>,
 ) -> Result<(), NoMemory>
     requires port { PortFits (seen_form form) }
-    requires words { header.old.words ≤ most_initial_words }
+    requires words { header.old.words ≤ MOST_INITIAL_WORDS }
     ensures { OnOk result (seen_header header.new ≡ with_form (seen_header header.old) (seen_form form.entry)) }
 {
     let names = &mut header.names;

@@ -1,6 +1,6 @@
 ghost use Rattle.std.specs.Prelude.{◌≡◌, ◌≤◌, None, IfOk, OnOk, IfErr};
 ghost use Rattle.asm_lines.specs.Faults.{Causes, at_or};
-ghost use Rattle.asm_lines.specs.Limits.{most_initial_words};
+ghost use Rattle.micro_isa.specs.declared.limits.TheConstants.{MOST_INITIAL_WORDS};
 ghost use Rattle.asm_header.specs.Headers.{with_line, header_of};
 ghost use Rattle.asm_header.specs.Faults.{line_fault, header_fault};
 ghost use Rattle.asm_header.specs.Sound.{IsSound};
@@ -13,7 +13,7 @@ use asm_lines::{BundleFault, Row};
 use std::alloc::Global;
 
 fn read_line<'a>(alloc: Global, header: &mut Header<'a>, row: &Row<'a>) -> Result<(), BundleFault>
-    requires { header.old.words ≤ most_initial_words }
+    requires { header.old.words ≤ MOST_INITIAL_WORDS }
     ensures header { OnOk result (seen_header header.new ≡ with_line (seen_header header.old) row.now) }
     ensures fine { OnOk result (line_fault (seen_header header.old) row.now ≡ None) }
     ensures cause { IfErr result (λ why. Causes why (at_or row.now.number (line_fault (seen_header header.old) row.now) None)) }

@@ -1,5 +1,4 @@
 pub mod Cutting
 pub mod Faults
-pub mod Limits
 pub mod Numbers
 pub mod Tables

@@ -4,16 +4,11 @@
 
 mod cutting;
 mod fault;
-mod limits;
 mod number;
 mod table;
 
 pub use cutting::{Row, rows_of};
 pub use fault::{BundleFault, BundleKind, kind_text};
-pub use limits::{
-    LARGEST_FILE, LARGEST_MEMORY, LARGEST_RING, MOST_CHANNELS, MOST_CONTEXTS, MOST_INITIAL_WORDS,
-    MOST_INSTRUCTIONS, MOST_REGISTERS, PORTS,
-};
 pub use number::{number_or, word_number};
 pub use table::{
     declare, find, has_name, is_misnamed, is_stray, knows, name_of, names_of, place_of,

@@ -7,13 +7,17 @@ use Rattle.std.specs.List.{list_any, list_all}
 use Rattle.std.specs.Option.{option_map}
 use Rattle.std.specs.Str.{bytes_eq}
 use Rattle.micro_isa.specs.declared.instr.Instr.{Instr}
-use Rattle.micro_isa.specs.declared.instr.Instr.TheVariants as instr
+use Rattle.micro_isa.specs.declared.operands.Extra.{Extra}
+use Rattle.micro_isa.specs.declared.operands.Extra.TheVariants.{Nothing, Number, Target, Receive, Send}
+use Rattle.micro_isa.specs.declared.limits.TheConstants.{MOST_REGISTERS, MOST_INSTRUCTIONS}
 use Rattle.micro_isa.specs.declared.program.VReg.{VReg}
 use Rattle.micro_isa.specs.declared.program.Label.{Label}
 use Rattle.micro_isa.specs.declared.program.Channel.{Channel}
 use Rattle.micro_isa.specs.declared.program.Program.{Program}
 use Rattle.micro_isa.specs.Names.{name_test}
 use Rattle.micro_isa.specs.Formed as formed
+use Rattle.micro_isa.specs.Operands.{operands_of}
+use Rattle.asm_context.specs.Spelt as operand
 use Rattle.asm_lines.specs.Cutting.{Words, TextLine}
 use Rattle.asm_lines.specs.Numbers.{is_no_number}
 use Rattle.asm_lines.specs.Tables.{knows, declare, misnamed, one}
@@ -24,7 +28,7 @@ use Rattle.asm_context.specs.Programs.{instr_in, on_line}
 use Rattle.asm_context.specs.Said.{Said, with_body, count, targets_after}
 use Rattle.asm_print.specs.Canonical.{name_at, target_name, instruction_row}
 use Rattle.asm_print.proofs.Plain.{row_words}
-use Rattle.asm_print.specs.Typed.{NumberFits}
+use Rattle.asm_print.specs.Typed.{OfAny}
 use Rattle.asm_print.proofs.FreeTests.{no_kind}
 use Rattle.asm_print.proofs.InTurn.{InTurn, grown, declare_all}
 use Rattle.asm_print.proofs.InstructionAgain.{form_for, body_for, body_again, numbers_of, shape, received, sent, number, well_named, reached, Channelled, met, giver, taker, Spelt, instr_again}
@@ -60,14 +64,14 @@ label_body w = ap (λ o. labelled o (w ++ codes ":") []) (label_again w)
 -- where a program's line may stand
 pub record Placed (p : Program) (k at : ℕ) : Type 0 where
   pub few : k ≤ length p.registers
-  pub registers : length p.registers ≤ 128
+  pub registers : length p.registers ≤ MOST_REGISTERS
   pub within : at < length p.code
-  pub short : length p.code ≤ 2048
+  pub short : length p.code ≤ MOST_INSTRUCTIONS
 
-few_now : (p : Program) (k at : ℕ) → k ≤ length p.registers → length p.registers ≤ 128 → at ≤ 2048 → (nat_lt 128 (length (take k p.registers)) || nat_lt 2048 at) ≡ false
+few_now : (p : Program) (k at : ℕ) → k ≤ length p.registers → length p.registers ≤ MOST_REGISTERS → at ≤ MOST_INSTRUCTIONS → (nat_lt MOST_REGISTERS (length (take k p.registers)) || nat_lt MOST_INSTRUCTIONS at) ≡ false
 few_now p k at f r s =
-    or_from (nat_lt 128 (length (take k p.registers))) (nat_lt 2048 at)
-    (le-ltb 128 (length (take k p.registers)) (omega (arith, length-take-le k p.registers f))) (le-ltb 2048 at s)
+    or_from (nat_lt MOST_REGISTERS (length (take k p.registers))) (nat_lt MOST_INSTRUCTIONS at)
+    (le-ltb MOST_REGISTERS (length (take k p.registers)) (omega (arith, length-take-le k p.registers f))) (le-ltb MOST_INSTRUCTIONS at s)
 
 pub label_walk : (chs : Words) (kinds : List Channel) (p : Program) (n k at : ℕ) (before : List Label) (l : Label) (later : List Label)
     → Placed p k at → name_test l.name ≡ true → formed.is_distinct bytes_eq (map (λ l. l.name) p.labels) ≡ true → before ++ l ∷ later ≡ p.labels → l.target ≡ at
@@ -126,55 +130,19 @@ label_walk chs kinds p n k at before l later placed named distinct parts here =
 
 -- ---- instructions
 
--- a fact of the value that there may be
-abbrev OfAny : Option ℕ → (ℕ → Type 0) → Type 0
-OfAny None P = Unit {0}
-OfAny (Some k) P = P k
+receives_fit : (kinds : List Channel) (x : Extra ℕ ℕ) → formed.fits_extra kinds x ≡ true → OfAny (operand.received x) (λ k. formed.gives_words (slice_get kinds k) ≡ true)
+receives_fit kinds Nothing e = tt
+receives_fit kinds (Number n) e = tt
+receives_fit kinds (Target t) e = tt
+receives_fit kinds (Receive k) e = e
+receives_fit kinds (Send k) e = tt
 
-receives_fit : (kinds : List Channel) (i : Instr VReg) → formed.fits_channels kinds i ≡ true → OfAny (received i) (λ k. formed.gives_words (slice_get kinds k) ≡ true)
-receives_fit kinds (instr.Li to n) e = tt
-receives_fit kinds (instr.Mov to from) e = tt
-receives_fit kinds (instr.Alu op to a b) e = tt
-receives_fit kinds (instr.Div op to a b) e = tt
-receives_fit kinds (instr.Ctx to) e = tt
-receives_fit kinds (instr.Jmp target) e = tt
-receives_fit kinds (instr.Branch test a b target) e = tt
-receives_fit kinds (instr.Load to address) e = tt
-receives_fit kinds (instr.Store address from) e = tt
-receives_fit kinds instr.Yield e = tt
-receives_fit kinds (instr.Recv to channel) e = e
-receives_fit kinds (instr.Send channel from) e = tt
-receives_fit kinds instr.Halt e = tt
-
-sends_fit : (kinds : List Channel) (i : Instr VReg) → formed.fits_channels kinds i ≡ true → OfAny (sent i) (λ k. formed.takes_words (slice_get kinds k) ≡ true)
-sends_fit kinds (instr.Li to n) e = tt
-sends_fit kinds (instr.Mov to from) e = tt
-sends_fit kinds (instr.Alu op to a b) e = tt
-sends_fit kinds (instr.Div op to a b) e = tt
-sends_fit kinds (instr.Ctx to) e = tt
-sends_fit kinds (instr.Jmp target) e = tt
-sends_fit kinds (instr.Branch test a b target) e = tt
-sends_fit kinds (instr.Load to address) e = tt
-sends_fit kinds (instr.Store address from) e = tt
-sends_fit kinds instr.Yield e = tt
-sends_fit kinds (instr.Recv to channel) e = tt
-sends_fit kinds (instr.Send channel from) e = e
-sends_fit kinds instr.Halt e = tt
-
-number_fits : (i : Instr VReg) → NumberFits i → OfAny (number i) (λ n. n < 2 ^ 32)
-number_fits (instr.Li to n) h = h
-number_fits (instr.Mov to from) h = tt
-number_fits (instr.Alu op to a b) h = tt
-number_fits (instr.Div op to a b) h = tt
-number_fits (instr.Ctx to) h = tt
-number_fits (instr.Jmp target) h = tt
-number_fits (instr.Branch test a b target) h = tt
-number_fits (instr.Load to address) h = tt
-number_fits (instr.Store address from) h = tt
-number_fits instr.Yield h = tt
-number_fits (instr.Recv to channel) h = tt
-number_fits (instr.Send channel from) h = tt
-number_fits instr.Halt h = tt
+sends_fit : (kinds : List Channel) (x : Extra ℕ ℕ) → formed.fits_extra kinds x ≡ true → OfAny (operand.sent x) (λ k. formed.takes_words (slice_get kinds k) ≡ true)
+sends_fit kinds Nothing e = tt
+sends_fit kinds (Number n) e = tt
+sends_fit kinds (Target t) e = tt
+sends_fit kinds (Receive k) e = tt
+sends_fit kinds (Send k) e = e
 
 module _ (chs : Words) (kinds : List Channel) (p : Program) where
   number_said : (o : Option ℕ) → OfAny o (λ n. n < 2 ^ 32) → list_any is_no_number (one (option_map decimal o)) ≡ false
@@ -231,8 +199,8 @@ module _ (chs : Words) (kinds : List Channel) (p : Program) where
       let b : Body = body_for chs p i in
       let f : Form = form_for chs p i in
       let sh = shape chs p i in
-      let r = receives_fit kinds i spelt.fits in
-      let t = sends_fit kinds i spelt.fits in
+      let r = receives_fit kinds (operands_of i).extra spelt.fits in
+      let t = sends_fit kinds (operands_of i).extra spelt.fits in
       let grows : fold declare (take k p.registers) (registers_in f) ≡ take (grown k (numbers_of i)) p.registers =
       ap (fold declare (take k p.registers)) sh.registers ∙ declare_all p.registers k (numbers_of i) spelt.distinct placed.few within turn in
       let names : (misnamed (registers_in f) || (misnamed (one (goes_to f)) || (misnamed (one (receives_from f)) || misnamed (one (sends_to f))))) ≡ false =
@@ -250,10 +218,10 @@ module _ (chs : Words) (kinds : List Channel) (p : Program) where
             (
               names,
               (
-                ap (λ o. list_any is_no_number (one o)) sh.number ∙ number_said (number i) (number_fits i spelt.number),
+                ap (λ o. list_any is_no_number (one o)) sh.number ∙ number_said (number i) spelt.number,
                 (
-                  ap (λ (rs : Words). nat_lt 128 (length rs) || nat_lt 2048 (at + count (does f))) grows
-                      ∙ ap (λ d. nat_lt 128 (length (take (grown k (numbers_of i)) p.registers)) || nat_lt 2048 (at + count d)) sh.does
+                  ap (λ (rs : Words). nat_lt MOST_REGISTERS (length rs) || nat_lt MOST_INSTRUCTIONS (at + count (does f))) grows
+                      ∙ ap (λ d. nat_lt MOST_REGISTERS (length (take (grown k (numbers_of i)) p.registers)) || nat_lt MOST_INSTRUCTIONS (at + count d)) sh.does
                       ∙ few_now p (grown k (numbers_of i)) (at + 1) spelt.few placed.registers (omega (arith, placed.within, placed.short)),
                   (
                     refl,

@@ -8,6 +8,7 @@ use Rattle.std.proofs.lemmas.List.{length-map, length-append}
 use Rattle.std.proofs.Math.Seq.{set-append_seam}
 use Rattle.std.specs.List.{list_all, list_any, filter_map, AllByRecursion}
 use Rattle.std.specs.Str.{bytes_eq}
+use Rattle.micro_isa.specs.declared.limits.TheConstants.{MOST_FILE, MOST_MEMORY, MOST_CHANNELS, MOST_PORTS, MOST_RING, MOST_INITIAL_WORDS}
 use Rattle.micro_isa.specs.declared.program.PortUse.{PortUse}
 use Rattle.micro_isa.specs.declared.program.Channel.{Channel}
 use Rattle.micro_isa.specs.declared.program.Channel.TheVariants as channel
@@ -85,18 +86,18 @@ within least most n s l m =
     ∙ ap (λ (b : Bool). not (b && nat_le n most)) (le-leb least n l)
     ∙ ap (λ (b : Bool). not b) (le-leb n most m)
 
-ring_bounds : (n : ℕ) → is_ring_size n ≡ true → (1 ≤ n) × (n ≤ 1024)
-ring_bounds n e = let a = and_parts (nat_le 1 n) (nat_le n 1024) e in (leb-true 1 n a.0, leb-true n 1024 a.1)
+ring_bounds : (n : ℕ) → is_ring_size n ≡ true → (1 ≤ n) × (n ≤ MOST_RING)
+ring_bounds n e = let a = and_parts (nat_le 1 n) (nat_le n MOST_RING) e in (leb-true 1 n a.0, leb-true n MOST_RING a.1)
 
 -- a ring's capacity that is in range, and one channel more
-ring_fits : (n k : ℕ) → is_ring_size n ≡ true → k < 16 → (false || ((not (is_from 1 1024 (decimal n)) || false) || (nat_le 16 k || false))) ≡ false
+ring_fits : (n k : ℕ) → is_ring_size n ≡ true → k < MOST_CHANNELS → (false || ((not (is_from 1 MOST_RING (decimal n)) || false) || (nat_le MOST_CHANNELS k || false))) ≡ false
 ring_fits n k e h =
     let a = ring_bounds n e in
-    ap (λ (b : Bool). (b || false) || (nat_le 16 k || false)) (within 1 1024 n (omega arith) a.0 a.1)
-    ∙ ap (λ (b : Bool). b || false) (lt-leb 16 k h)
+    ap (λ (b : Bool). (b || false) || (nat_le MOST_CHANNELS k || false)) (within 1 MOST_RING n (omega arith) a.0 a.1)
+    ∙ ap (λ (b : Bool). b || false) (lt-leb MOST_CHANNELS k h)
 
-no_ring_fits : (k : ℕ) → k < 16 → (false || (false || (nat_le 16 k || false))) ≡ false
-no_ring_fits k h = ap (λ (b : Bool). b || false) (lt-leb 16 k h)
+no_ring_fits : (k : ℕ) → k < MOST_CHANNELS → (false || (false || (nat_le MOST_CHANNELS k || false))) ≡ false
+no_ring_fits k h = ap (λ (b : Bool). b || false) (lt-leb MOST_CHANNELS k h)
 
 one_number : (n : ℕ) → n < 2 ^ 32 → list_any is_no_number (decimal n ∷ []) ≡ false
 one_number n s = ap (λ (b : Bool). b || false) (number_there n s)
@@ -104,10 +105,10 @@ one_number n s = ap (λ (b : Bool). b || false) (number_there n s)
 two_numbers : (m n : ℕ) → m < 2 ^ 32 → n < 2 ^ 32 → list_any is_no_number (decimal m ∷ decimal n ∷ []) ≡ false
 two_numbers m n r s = ap (λ (b : Bool). b || (is_no_number (decimal n) || false)) (number_there m r) ∙ one_number n s
 
-port_fits : (channels : List Channel) (p : ℕ) (later : List ℕ) → p < 16 → is_distinct nat_eq (filter_map port_of channels ++ p ∷ later) ≡ true → (is_bad_port channels (number_or (decimal p)) || false) ≡ false
+port_fits : (channels : List Channel) (p : ℕ) (later : List ℕ) → p < MOST_PORTS → is_distinct nat_eq (filter_map port_of channels ++ p ∷ later) ≡ true → (is_bad_port channels (number_or (decimal p)) || false) ≡ false
 port_fits channels p later h d =
     ap (λ k. is_bad_port channels k || false) (number_is p (omega arith))
-    ∙ ap (λ (b : Bool). (b || list_any (nat_eq p) (filter_map port_of channels)) || false) (lt-leb 16 p h)
+    ∙ ap (λ (b : Bool). (b || list_any (nat_eq p) (filter_map port_of channels)) || false) (lt-leb MOST_PORTS p h)
     ∙ ap (λ (b : Bool). b || false) (fresh_number (filter_map port_of channels) p later d)
 
 new_name : (names : Words) (name : List ℕ) → knows names name ≡ false → list_any (knows names) (name ∷ []) ≡ false
@@ -117,7 +118,7 @@ new_name names name e = ap (λ (b : Bool). b || false) e
 
 -- a channel of this name may be made
 record Room (names : Words) (channels : List Channel) (name : List ℕ) : Type 0 where
-  few : length names < 16
+  few : length names < MOST_CHANNELS
   same : length names ≡ length channels
   named : name_test name ≡ true
   new : knows names name ≡ false
@@ -142,7 +143,7 @@ module _ (file memory n words : ℕ) (names : Words) (channels : List Channel) (
       (refl, (refl, (refl, (named_one name room.named, (refl, (no_ring_fits (length names) room.few, (refl, (new_name names name room.new, (refl, (refl, tt)))))))))))
       (named_so (channel.Input [] None))
 
-  port_input_line : (port : PortUse) (later : List ℕ) → is_ring_size port.capacity ≡ true → port.number < 16 → is_distinct nat_eq (filter_map port_of channels ++ port.number ∷ later) ≡ true
+  port_input_line : (port : PortUse) (later : List ℕ) → is_ring_size port.capacity ≡ true → port.number < MOST_PORTS → is_distinct nat_eq (filter_map port_of channels ++ port.number ∷ later) ≡ true
       → Leads (so_far file memory names channels words) (line n (codes "input" ∷ name ∷ codes "port" ∷ decimal port.number ∷ decimal port.capacity ∷ []) ∷ []) (so_far file memory (names ++ name ∷ []) (channels ++ channel.Input [] (Some port) ∷ []) words)
   port_input_line port later e h d =
       let a = ring_bounds port.capacity e in
@@ -162,7 +163,7 @@ module _ (file memory n words : ℕ) (names : Words) (channels : List Channel) (
       (refl, (refl, (refl, (named_one name room.named, (refl, (no_ring_fits (length names) room.few, (refl, (new_name names name room.new, (refl, (refl, tt)))))))))))
       (named_so (channel.Output None))
 
-  port_output_line : (port : ℕ) (later : List ℕ) → port < 16 → is_distinct nat_eq (filter_map port_of channels ++ port ∷ later) ≡ true
+  port_output_line : (port : ℕ) (later : List ℕ) → port < MOST_PORTS → is_distinct nat_eq (filter_map port_of channels ++ port ∷ later) ≡ true
       → Leads (so_far file memory names channels words) (line n (codes "output" ∷ name ∷ codes "port" ∷ decimal port ∷ []) ∷ []) (so_far file memory (names ++ name ∷ []) (channels ++ channel.Output (Some port) ∷ []) words)
   port_output_line port later h d =
       let t : port < 2 ^ 32 = omega arith in
@@ -210,7 +211,7 @@ input_last cs c e = ap (λ (o : Option Channel). not (is_input o) || false) (las
 
 initial_line : (file memory n words : ℕ) (names : Words) (channels : List Channel) (name : List ℕ) (port : Option PortUse) (x : ℕ) (xs : List ℕ)
     → name_test name ≡ true → length names ≡ length channels → is_distinct bytes_eq (names ++ name ∷ []) ≡ true
-    → words + length (x ∷ xs) ≤ 65536 → AllByRecursion (λ n. n < 2 ^ 32) (x ∷ xs)
+    → words + length (x ∷ xs) ≤ MOST_INITIAL_WORDS → AllByRecursion (λ n. n < 2 ^ 32) (x ∷ xs)
     → Leads (so_far file memory (names ++ name ∷ []) (channels ++ channel.Input [] port ∷ []) words) (line n (codes "words" ∷ name ∷ map decimal (x ∷ xs)) ∷ [])
     (so_far file memory (names ++ name ∷ []) (channels ++ channel.Input (x ∷ xs) port ∷ []) (words + length (x ∷ xs)))
 initial_line file memory n words names channels name port x xs named same distinct few fits =
@@ -228,7 +229,7 @@ initial_line file memory n words names channels name port x xs named same distin
             (
               all_numbers (x ∷ xs) fits,
               (
-                ap (λ (b : Bool). b || false) (le-ltb 65536 (words + length (map decimal (x ∷ xs))) (omega arith)),
+                ap (λ (b : Bool). b || false) (le-ltb MOST_INITIAL_WORDS (words + length (map decimal (x ∷ xs))) (omega arith)),
                 (
                   refl,
                   (
@@ -263,12 +264,12 @@ pub record Follow (before : Words) (made : List Channel) (words : ℕ) (names : 
   pub distinct : is_distinct bytes_eq (before ++ names) ≡ true
   pub same : length before ≡ length made
   pub rest : length names ≡ length channels
-  pub few : length before + length names ≤ 16
+  pub few : length before + length names ≤ MOST_CHANNELS
   pub named : list_all name_test names ≡ true
   pub rings : list_all has_formed_ring channels ≡ true
-  pub ports : all_below 16 (filter_map port_of channels) ≡ true
+  pub ports : all_below MOST_PORTS (filter_map port_of channels) ≡ true
   pub apart : is_distinct nat_eq (filter_map port_of made ++ filter_map port_of channels) ≡ true
-  pub counted : words + sum (map initial_count channels) ≤ 65536
+  pub counted : words + sum (map initial_count channels) ≤ MOST_INITIAL_WORDS
   pub fits : AllByRecursion WordsFit channels
 
 moved_over : {A : Type 0} (xs : List A) (y : A) (ys : List A) → (xs ++ y ∷ []) ++ ys ≡ xs ++ y ∷ ys
@@ -280,10 +281,10 @@ ports_moved made c cs =
     ∙ append_assoc (filter_map port_of made) (filter_map port_of (c ∷ [])) (filter_map port_of cs)
     ∙ ap (λ ps. filter_map port_of made ++ ps) (sym (filter_map-append port_of (c ∷ []) cs))
 
-later_ports : (c : Channel) (cs : List Channel) → all_below 16 (filter_map port_of (c ∷ cs)) ≡ true → all_below 16 (filter_map port_of cs) ≡ true
+later_ports : (c : Channel) (cs : List Channel) → all_below MOST_PORTS (filter_map port_of (c ∷ cs)) ≡ true → all_below MOST_PORTS (filter_map port_of cs) ≡ true
 later_ports c cs e =
-    let both = sym (list_all-append (λ p. nat_lt p 16) (filter_map port_of (c ∷ [])) (filter_map port_of cs)) ∙ ap (all_below 16) (sym (filter_map-append port_of (c ∷ []) cs)) ∙ e in
-    (and_parts (all_below 16 (filter_map port_of (c ∷ []))) (all_below 16 (filter_map port_of cs)) both).1
+    let both = sym (list_all-append (λ p. nat_lt p MOST_PORTS) (filter_map port_of (c ∷ [])) (filter_map port_of cs)) ∙ ap (all_below MOST_PORTS) (sym (filter_map-append port_of (c ∷ []) cs)) ∙ e in
+    (and_parts (all_below MOST_PORTS (filter_map port_of (c ∷ []))) (all_below MOST_PORTS (filter_map port_of cs)) both).1
 
 counted_on : (c : Channel) (cs : List Channel) → sum (map initial_count (c ∷ cs)) ≡ initial_count c + sum (map initial_count cs)
 counted_on c cs = sum_by-cons (λ n. n) (initial_count c) (map initial_count cs)
@@ -311,7 +312,7 @@ room before made words name c names channels f = record {
 }
 
 module _ (file memory : ℕ) where
-  filled_lead : (n words : ℕ) (before : Words) (made : List Channel) (name : List ℕ) (names : Words) (port : Option PortUse) (ns : List ℕ) → Room before made name → is_distinct bytes_eq (before ++ name ∷ names) ≡ true → words + length ns ≤ 65536 → AllByRecursion (λ n. n < 2 ^ 32) ns
+  filled_lead : (n words : ℕ) (before : Words) (made : List Channel) (name : List ℕ) (names : Words) (port : Option PortUse) (ns : List ℕ) → Room before made name → is_distinct bytes_eq (before ++ name ∷ names) ≡ true → words + length ns ≤ MOST_INITIAL_WORDS → AllByRecursion (λ n. n < 2 ^ 32) ns
       → Leads (so_far file memory before made words) (line n (row_words (input_row name port)) ∷ []) (so_far file memory (before ++ name ∷ []) (made ++ channel.Input [] port ∷ []) words)
       → Leads (so_far file memory before made words) (lines_with n (input_row name port ∷ words_rows name ns)) (so_far file memory (before ++ name ∷ []) (made ++ channel.Input ns port ∷ []) (words + length ns))
   filled_lead n words before made name names port [] r d few fits first =
@@ -332,14 +333,14 @@ module _ (file memory : ℕ) where
   channel_leads n words before made name (channel.Input ns (Some port)) names channels f =
       let r = room before made words name (channel.Input ns (Some port)) names channels f in
       let e = (and_parts (has_formed_ring (channel.Input ns (Some port))) (list_all has_formed_ring channels) f.rings).0 in
-      let p = ltb-true port.number 16 (and_parts (nat_lt port.number 16) (all_below 16 (filter_map port_of channels)) f.ports).0 in
+      let p = ltb-true port.number MOST_PORTS (and_parts (nat_lt port.number MOST_PORTS) (all_below MOST_PORTS (filter_map port_of channels)) f.ports).0 in
       filled_lead n words before made name names (Some port) ns r f.distinct (omega (arith, f.counted, counted_on (channel.Input ns (Some port)) channels)) f.fits.0 (port_input_line file memory n words before made name r port (filter_map port_of channels) e p f.apart)
   channel_leads n words before made name (channel.Output None) names channels f =
       let r = room before made words name (channel.Output None) names channels f in
       retold _ _ _ _ (ap (λ (k : ℕ). so_far file memory (before ++ name ∷ []) (made ++ channel.Output None ∷ []) k) (omega arith)) (output_line file memory n words before made name r)
   channel_leads n words before made name (channel.Output (Some port)) names channels f =
       let r = room before made words name (channel.Output (Some port)) names channels f in
-      let p = ltb-true port 16 (and_parts (nat_lt port 16) (all_below 16 (filter_map port_of channels)) f.ports).0 in
+      let p = ltb-true port MOST_PORTS (and_parts (nat_lt port MOST_PORTS) (all_below MOST_PORTS (filter_map port_of channels)) f.ports).0 in
       retold _ _ _ _ (ap (λ (k : ℕ). so_far file memory (before ++ name ∷ []) (made ++ channel.Output (Some port) ∷ []) k) (omega arith)) (port_output_line file memory n words before made name r port (filter_map port_of channels) p f.apart)
 
   channels_lead : (n words : ℕ) (before : Words) (made : List Channel) (names : Words) (channels : List Channel) → Follow before made words names channels
@@ -359,20 +360,20 @@ module _ (file memory : ℕ) where
 
 -- ---- the whole header
 
-file_line : (n file : ℕ) → 1 ≤ file → file ≤ 128 → Leads no_header (line n (codes "file" ∷ decimal file ∷ []) ∷ []) (record { file = Some file; memory = None; names = []; channels = []; words = 0 })
+file_line : (n file : ℕ) → 1 ≤ file → file ≤ MOST_FILE → Leads no_header (line n (codes "file" ∷ decimal file ∷ []) ∷ []) (record { file = Some file; memory = None; names = []; channels = []; words = 0 })
 file_line n file some few =
     let s : file < 2 ^ 32 = omega arith in
     one_line _ _ _
     (no_kind (form_tests no_header true (form.File (decimal file)))
-    (refl, (refl, (refl, (refl, (one_number file s, (ap (λ (b : Bool). b || (false || false)) (within 1 128 file s some few), (refl, (refl, (refl, (refl, tt)))))))))))
+    (refl, (refl, (refl, (refl, (one_number file s, (ap (λ (b : Bool). b || (false || false)) (within 1 MOST_FILE file s some few), (refl, (refl, (refl, (refl, tt)))))))))))
     (ap (λ (k : ℕ). record { file = Some k; memory = None; names = []; channels = []; words = 0 }) (number_is file s))
 
-memory_line : (n file memory : ℕ) → memory ≤ 65536 → Leads (record { file = Some file; memory = None; names = []; channels = []; words = 0 }) (line n (codes "memory" ∷ decimal memory ∷ []) ∷ []) (so_far file memory [] [] 0)
+memory_line : (n file memory : ℕ) → memory ≤ MOST_MEMORY → Leads (record { file = Some file; memory = None; names = []; channels = []; words = 0 }) (line n (codes "memory" ∷ decimal memory ∷ []) ∷ []) (so_far file memory [] [] 0)
 memory_line n file memory few =
     let s : memory < 2 ^ 32 = omega arith in
     one_line _ _ _
     (no_kind (form_tests (record { file = Some file; memory = None; names = []; channels = []; words = 0 }) true (form.Memory (decimal memory)))
-    (refl, (refl, (refl, (refl, (one_number memory s, (ap (λ (b : Bool). b || (false || false)) (within 0 65536 memory s (omega arith) few), (refl, (refl, (refl, (refl, tt)))))))))))
+    (refl, (refl, (refl, (refl, (one_number memory s, (ap (λ (b : Bool). b || (false || false)) (within 0 MOST_MEMORY memory s (omega arith) few), (refl, (refl, (refl, (refl, tt)))))))))))
     (ap (λ (k : ℕ). so_far file k [] [] 0) (number_is memory s))
 
 pub header_leads : (b : Bundle) → IsFormedBundle b → IsTyped b

@@ -1,95 +1,105 @@
 -- The words of an instruction's line say the instruction again.
-use Rattle.std.proofs.Common.{◌≡◌, ◌<◌, ◌≤◌, ◌==◌, ℕ, zero, suc, Bool, true, false, not, List, [], ◌∷◌, Option, Some, None, refl, sym, ap, ◌∙◌, arith, rules, length, map, take, decimal, slice_get, slice_index, get_or, nat_lt}
+use Rattle.std.proofs.Common.{◌≡◌, ◌<◌, ◌≤◌, ◌==◌, ℕ, zero, suc, Bool, true, false, not, List, [], ◌∷◌, Option, Some, None, refl, sym, ap, ◌∙◌, arith, length, map, take, decimal, slice_get, slice_index, get_or, nat_lt}
+use Rattle.std.specs.Prelude.{is_some}
 use Rattle.std.proofs.lemmas.Bool.{and_parts, or_from, ltb-true}
 use Rattle.std.proofs.lemmas.List.{length-map}
 use Rattle.std.proofs.lemmas.Option.{slice_get_within}
-use Rattle.std.specs.List.{list_any, list_all}
+use Rattle.std.specs.List.{list_any, list_all, cons_option}
 use Rattle.std.specs.Option.{option_map}
 use Rattle.std.specs.Str.{bytes_eq}
-use Rattle.micro_isa.specs.declared.arithmetic.AluOp.TheVariants as op
-use Rattle.micro_isa.specs.declared.arithmetic.DivOp.TheVariants as division
-use Rattle.micro_isa.specs.declared.arithmetic.Test.TheVariants as test
 use Rattle.micro_isa.specs.declared.instr.Instr.{Instr}
 use Rattle.micro_isa.specs.declared.instr.Instr.TheVariants as instr
+use Rattle.micro_isa.specs.declared.operation.Operation.{Operation}
+use Rattle.micro_isa.specs.declared.operation.Role.{Role}
+use Rattle.micro_isa.specs.declared.operation.Role.TheVariants.{To, A, B}
+use Rattle.micro_isa.specs.declared.operands.Extra.{Extra}
+use Rattle.micro_isa.specs.declared.operands.Extra.TheVariants.{Nothing, Number, Target, Receive, Send}
+use Rattle.micro_isa.specs.declared.operands.Operands.{Operands}
 use Rattle.micro_isa.specs.declared.program.VReg.{VReg}
 use Rattle.micro_isa.specs.declared.program.Label.{Label}
 use Rattle.micro_isa.specs.declared.program.Channel.{Channel}
 use Rattle.micro_isa.specs.declared.program.Program.{Program}
 use Rattle.micro_isa.specs.Names.{name_test}
+use Rattle.micro_isa.specs.Columns.{target_in}
 use Rattle.micro_isa.specs.Formed as formed
+use Rattle.micro_isa.specs.Operands.{operation_of, operands_of, instr_of}
+use Rattle.micro_isa.specs.Table.{row_of, roles_of}
+use Rattle.micro_isa.proofs.Laws as laws
 use Rattle.asm_lines.specs.Cutting.{Words}
 use Rattle.asm_lines.specs.Numbers.{number_or}
 use Rattle.asm_lines.specs.Tables.{knows, place_of, misnamed}
-use Rattle.asm_context.specs.Forms.{Form, Body, body_of, is_unknown, is_miscounted, does, ends, registers_in, goes_to, receives_from, sends_to, number_in}
-use Rattle.asm_context.specs.Forms as form
+use Rattle.asm_context.specs.Spelt as operand
+use Rattle.asm_context.specs.Spelt.{operands_in, each, each_extra}
+use Rattle.asm_context.specs.Forms.{Form, Body, Instruction, counted_form, named_form, labelled, body_of, is_unknown, is_miscounted, does, ends, registers_in, goes_to, receives_from, sends_to, number_in}
 use Rattle.asm_context.specs.Programs.{register, target, instr_in}
 use Rattle.asm_context.specs.Said.{Said}
-use Rattle.asm_print.specs.Canonical.{name_at, register_name, target_name, instruction_row}
+use Rattle.asm_print.specs.Canonical.{name_at, register_name, target_name, spelt, word_in, instruction_row}
 use Rattle.asm_print.proofs.Plain.{row_words}
-use Rattle.asm_print.specs.Typed.{NumberFits}
+use Rattle.asm_print.specs.Typed.{ExtraFits, NumberFits}
 use Rattle.asm_print.proofs.InTurn.{AllKnown, known_place, name_is}
+use Rattle.asm_print.proofs.Mnemonics.{no_label}
 use Rattle.asm_print.proofs.Tables.{place_is, known_at}
 use Rattle.asm_print.proofs.Targets.{found}
 use Rattle.asm_print.proofs.Words.{number_is}
 
 -- the form of an instruction's line
 abbrev pub form_for : Words → Program → Instr VReg → Form
-form_for chs p (instr.Li to n) = form.Li (register_name p to) (decimal n)
-form_for chs p (instr.Mov to from) = form.Mov (register_name p to) (register_name p from)
-form_for chs p (instr.Alu op to a b) = form.Alu op (register_name p to) (register_name p a) (register_name p b)
-form_for chs p (instr.Div op to a b) = form.Div op (register_name p to) (register_name p a) (register_name p b)
-form_for chs p (instr.Ctx to) = form.Ctx (register_name p to)
-form_for chs p (instr.Jmp target) = form.Jmp (target_name p.labels target)
-form_for chs p (instr.Branch test a b target) = form.Branch test (register_name p a) (register_name p b) (target_name p.labels target)
-form_for chs p (instr.Load to address) = form.Load (register_name p to) (register_name p address)
-form_for chs p (instr.Store address from) = form.Store (register_name p address) (register_name p from)
-form_for chs p instr.Yield = form.Yield
-form_for chs p (instr.Recv to channel) = form.Recv (register_name p to) (name_at chs channel)
-form_for chs p (instr.Send channel from) = form.Send (name_at chs channel) (register_name p from)
-form_for chs p instr.Halt = form.Halt
+form_for chs p i = Instruction (operation_of i) (spelt chs p (operands_of i))
 
 abbrev pub body_for : Words → Program → Instr VReg → Body
 body_for chs p i = record { label = None; form = form_for chs p i }
 
+abbrev pub is_named : Extra ℕ ℕ → Bool
+is_named Nothing = false
+is_named _ = true
+
+-- there is an operand in the role
+abbrev pub is_there : Operands VReg ℕ ℕ → Role → Bool
+is_there x To = is_some x.to
+is_there x A = is_some x.a
+is_there x B = is_some x.b
+is_there x _ = is_named x.extra
+
+-- an operation's roles are those of the operands that its instruction has, and the words in them are the operands again
+pub record Written (chs : Words) (p : Program) (i : Instr VReg) : Type 0 where
+  pub there : list_all (is_there (operands_of i)) (roles_of (operation_of i)) ≡ true
+  pub again : operands_in (roles_of (operation_of i)) (map (word_in (spelt chs p (operands_of i))) (roles_of (operation_of i))) ≡ Some (spelt chs p (operands_of i))
+
+pub written : (chs : Words) (p : Program) (i : Instr VReg) → Written chs p i
+written chs p (instr.Li to n) = record { there = refl; again = refl }
+written chs p (instr.Mov to from) = record { there = refl; again = refl }
+written chs p (instr.Alu op to a b) = record { there = refl; again = refl }
+written chs p (instr.Div op to a b) = record { there = refl; again = refl }
+written chs p (instr.Ctx to) = record { there = refl; again = refl }
+written chs p (instr.Jmp target) = record { there = refl; again = refl }
+written chs p (instr.Branch test a b target) = record { there = refl; again = refl }
+written chs p (instr.Load to address) = record { there = refl; again = refl }
+written chs p (instr.Store address from) = record { there = refl; again = refl }
+written chs p instr.Yield = record { there = refl; again = refl }
+written chs p (instr.Recv to channel) = record { there = refl; again = refl }
+written chs p (instr.Send channel from) = record { there = refl; again = refl }
+written chs p instr.Halt = record { there = refl; again = refl }
+
 pub body_again : (chs : Words) (p : Program) (i : Instr VReg) → body_of (row_words (instruction_row chs p i)) ≡ body_for chs p i
-body_again chs p (instr.Li to n) = refl
-body_again chs p (instr.Mov to from) = refl
-body_again chs p (instr.Alu op.Add to a b) = refl
-body_again chs p (instr.Alu op.Sub to a b) = refl
-body_again chs p (instr.Alu op.Mul to a b) = refl
-body_again chs p (instr.Alu op.And to a b) = refl
-body_again chs p (instr.Alu op.Or to a b) = refl
-body_again chs p (instr.Alu op.Xor to a b) = refl
-body_again chs p (instr.Alu op.Shl to a b) = refl
-body_again chs p (instr.Alu op.Shr to a b) = refl
-body_again chs p (instr.Alu op.Ltu to a b) = refl
-body_again chs p (instr.Alu op.Eq to a b) = refl
-body_again chs p (instr.Div division.Quotient to a b) = refl
-body_again chs p (instr.Div division.Remainder to a b) = refl
-body_again chs p (instr.Ctx to) = refl
-body_again chs p (instr.Jmp target) = refl
-body_again chs p (instr.Branch test.Eq a b target) = refl
-body_again chs p (instr.Branch test.Ne a b target) = refl
-body_again chs p (instr.Branch test.Ltu a b target) = refl
-body_again chs p (instr.Branch test.Geu a b target) = refl
-body_again chs p (instr.Load to address) = refl
-body_again chs p (instr.Store address from) = refl
-body_again chs p instr.Yield = refl
-body_again chs p (instr.Recv to channel) = refl
-body_again chs p (instr.Send channel from) = refl
-body_again chs p instr.Halt = refl
+body_again chs p i =
+    ap (λ (label : Option (List ℕ)). labelled label (row_of op).mnemonic words) (no_label op)
+    ∙ ap (λ (o : Option Operation). record { label = None; form = named_form o words }) (laws.found op).named
+    ∙ ap (λ x. record { label = None; form = counted_form op x }) (written chs p i).again
+  where
+    op : Operation
+    op = operation_of i
+
+    words : Words
+    words = map (word_in (spelt chs p (operands_of i))) (roles_of (operation_of i))
 
 abbrev pub received : Instr VReg → Option ℕ
-received (instr.Recv to channel) = Some channel
-received _ = None
+received i = operand.received (operands_of i).extra
 
 abbrev pub sent : Instr VReg → Option ℕ
-sent (instr.Send channel from) = Some channel
-sent _ = None
+sent i = operand.sent (operands_of i).extra
 
 abbrev pub number : Instr VReg → Option ℕ
-number (instr.Li to n) = Some n
-number _ = None
+number i = operand.number_of (operands_of i).extra
 
 -- the numbers of an instruction's registers
 abbrev pub numbers_of : Instr VReg → List ℕ
@@ -107,20 +117,61 @@ pub record Shape (chs : Words) (p : Program) (i : Instr VReg) : Type 0 where
   pub sends : sends_to (form_for chs p i) ≡ option_map (name_at chs) (sent i)
   pub number : number_in (form_for chs p i) ≡ option_map decimal (number i)
 
+registers_spelt : (p : Program) (to a b : Option VReg) → cons_option (option_map (register_name p) to) (cons_option (option_map (register_name p) a) (cons_option (option_map (register_name p) b) [])) ≡ map (name_at p.registers) (map (λ (r : VReg). r.0) (cons_option to (cons_option a (cons_option b []))))
+registers_spelt p None None None = refl
+registers_spelt p None None (Some b) = refl
+registers_spelt p None (Some a) None = refl
+registers_spelt p None (Some a) (Some b) = refl
+registers_spelt p (Some to) None None = refl
+registers_spelt p (Some to) None (Some b) = refl
+registers_spelt p (Some to) (Some a) None = refl
+registers_spelt p (Some to) (Some a) (Some b) = refl
+
+module _ (chs : Words) (p : Program) where
+  abbrev extra_spelt : Extra ℕ ℕ → Extra (List ℕ) (List ℕ)
+  extra_spelt x = each_extra decimal (target_name p.labels) (name_at chs) x
+
+  goes_spelt : (x : Extra ℕ ℕ) → target_in (extra_spelt x) ≡ option_map (target_name p.labels) (target_in x)
+  goes_spelt Nothing = refl
+  goes_spelt (Number n) = refl
+  goes_spelt (Target t) = refl
+  goes_spelt (Receive k) = refl
+  goes_spelt (Send k) = refl
+
+  received_spelt : (x : Extra ℕ ℕ) → operand.received (extra_spelt x) ≡ option_map (name_at chs) (operand.received x)
+  received_spelt Nothing = refl
+  received_spelt (Number n) = refl
+  received_spelt (Target t) = refl
+  received_spelt (Receive k) = refl
+  received_spelt (Send k) = refl
+
+  sent_spelt : (x : Extra ℕ ℕ) → operand.sent (extra_spelt x) ≡ option_map (name_at chs) (operand.sent x)
+  sent_spelt Nothing = refl
+  sent_spelt (Number n) = refl
+  sent_spelt (Target t) = refl
+  sent_spelt (Receive k) = refl
+  sent_spelt (Send k) = refl
+
+  number_spelt : (x : Extra ℕ ℕ) → operand.number_of (extra_spelt x) ≡ option_map decimal (operand.number_of x)
+  number_spelt Nothing = refl
+  number_spelt (Number n) = refl
+  number_spelt (Target t) = refl
+  number_spelt (Receive k) = refl
+  number_spelt (Send k) = refl
+
 pub shape : (chs : Words) (p : Program) (i : Instr VReg) → Shape chs p i
-shape chs p (instr.Li to n) = search rules
-shape chs p (instr.Mov to from) = search rules
-shape chs p (instr.Alu op to a b) = search rules
-shape chs p (instr.Div op to a b) = search rules
-shape chs p (instr.Ctx to) = search rules
-shape chs p (instr.Jmp target) = search rules
-shape chs p (instr.Branch test a b target) = search rules
-shape chs p (instr.Load to address) = search rules
-shape chs p (instr.Store address from) = search rules
-shape chs p instr.Yield = search rules
-shape chs p (instr.Recv to channel) = search rules
-shape chs p (instr.Send channel from) = search rules
-shape chs p instr.Halt = search rules
+shape chs p i =
+    let x = operands_of i in record {
+      unknown = refl;
+      miscounted = refl;
+      does = refl;
+      ends = refl;
+      registers = registers_spelt p x.to x.a x.b;
+      goes = goes_spelt chs p x.extra;
+      receives = received_spelt chs p x.extra;
+      sends = sent_spelt chs p x.extra;
+      number = number_spelt chs p x.extra;
+    }
 
 -- ---- names that an instruction uses
 
@@ -209,50 +260,48 @@ pub record Spelt (chs : Words) (kinds : List Channel) (p : Program) (k : ℕ) (i
   pub fits : formed.fits_channels kinds i ≡ true
   pub number : NumberFits i
 
+-- a register that there may be is known
+abbrev Known : ℕ → Option VReg → Type 0
+Known k None = Unit {0}
+Known k (Some r) = r.0 < k
+
+known_each : (k : ℕ) (to a b : Option VReg) → AllKnown k (map (λ (r : VReg). r.0) (cons_option to (cons_option a (cons_option b [])))) → Known k to × Known k a × Known k b
+known_each k None None None h = (tt, tt, tt)
+known_each k None None (Some b) h = (tt, tt, h.0)
+known_each k None (Some a) None h = (tt, h.0, tt)
+known_each k None (Some a) (Some b) h = (tt, h.0, (h.1).0)
+known_each k (Some to) None None h = (h.0, tt, tt)
+known_each k (Some to) None (Some b) h = (h.0, tt, (h.1).0)
+known_each k (Some to) (Some a) None h = (h.0, (h.1).0, tt)
+known_each k (Some to) (Some a) (Some b) h = (h.0, (h.1).0, ((h.1).1).0)
+
+module _ (chs : Words) (kinds : List Channel) (p : Program) (k : ℕ) (all : Said) (names : all.labels ≡ map (λ l. l.name) p.labels) (targets : all.targets ≡ map (λ l. l.target) p.labels) where
+  register_told : (r : Option VReg) → formed.is_distinct bytes_eq p.registers ≡ true → k ≤ length p.registers → Known k r → option_map (register (take k p.registers)) (option_map (register_name p) r) ≡ r
+  register_told None d l h = refl
+  register_told (Some r) d l h = ap (λ (s : VReg). Some s) (register_again p k r d l h)
+
+  target_told : (t : ℕ) → list_all (λ l. name_test l.name) p.labels ≡ true → formed.is_distinct bytes_eq (map (λ l. l.name) p.labels) ≡ true → formed.is_labelled p.labels (Some t) ≡ true → target all (target_name p.labels t) ≡ t
+  target_told t e d h =
+      ap (λ (ts : List ℕ). slice_index ts (place_of all.labels (target_name p.labels t))) targets
+      ∙ ap (λ (ns : Words). slice_index (map (λ l. l.target) p.labels) (place_of ns (target_name p.labels t))) names
+      ∙ (reached p.labels t e d h).there
+
+  -- what the words of operands beside registers name
+  extra_told : (x : Extra ℕ ℕ) → list_all (λ l. name_test l.name) p.labels ≡ true → formed.is_distinct bytes_eq (map (λ l. l.name) p.labels) ≡ true → formed.is_labelled p.labels (target_in x) ≡ true
+      → Channelled chs kinds → formed.fits_extra kinds x ≡ true → ExtraFits x → each_extra number_or (target all) (place_of chs) (each_extra decimal (target_name p.labels) (name_at chs) x) ≡ x
+  extra_told Nothing e d l c f n = refl
+  extra_told (Number m) e d l c f n = ap (λ (j : ℕ). Number j) (number_is m n)
+  extra_told (Target t) e d l c f n = ap (λ (j : ℕ). Target j) (target_told t e d l)
+  extra_told (Receive j) e d l c f n = ap (λ (m : ℕ). Receive m) (met chs kinds j c (giver kinds j f)).place
+  extra_told (Send j) e d l c f n = ap (λ (m : ℕ). Send m) (met chs kinds j c (taker kinds j f)).place
+
 pub instr_again : (chs : Words) (kinds : List Channel) (p : Program) (k : ℕ) (all : Said) (i : Instr VReg) → all.labels ≡ map (λ l. l.name) p.labels → all.targets ≡ map (λ l. l.target) p.labels → Spelt chs kinds p k i → instr_in (take k p.registers) chs all (form_for chs p i) ≡ Some i
-instr_again chs kinds p k all i names targets s = go i s
-  where
-    reg : (r : VReg) → formed.is_distinct bytes_eq p.registers ≡ true → k ≤ length p.registers → r.0 < k → register (take k p.registers) (register_name p r) ≡ r
-    reg r d l h = register_again p k r d l h
-
-    goal : (i : Instr VReg) → Spelt chs kinds p k i → (t : ℕ) → formed.target_of i ≡ Some t → target all (target_name p.labels t) ≡ t
-    goal i s t e =
-        let r = reached p.labels t s.labels s.label_names (ap (formed.is_labelled p.labels) (sym e) ∙ s.labelled) in
-        ap (λ (ts : List ℕ). slice_index ts (place_of all.labels (target_name p.labels t))) targets
-        ∙ ap (λ (ns : Words). slice_index (map (λ l. l.target) p.labels) (place_of ns (target_name p.labels t))) names
-        ∙ r.there
-
-    go : (i : Instr VReg) → Spelt chs kinds p k i → instr_in (take k p.registers) chs all (form_for chs p i) ≡ Some i
-    go (instr.Li to n) s =
-        ap (λ (r : VReg). Some (instr.Li r (number_or (decimal n)))) (reg to s.distinct s.few s.known.0) ∙ ap (λ (m : ℕ). Some (instr.Li to m)) (number_is n s.number)
-    go (instr.Mov to from) s =
-        ap (λ (r : VReg). Some (instr.Mov r (register (take k p.registers) (register_name p from)))) (reg to s.distinct s.few s.known.0)
-        ∙ ap (λ (r : VReg). Some (instr.Mov to r)) (reg from s.distinct s.few (s.known.1).0)
-    go (instr.Alu op to a b) s =
-        ap (λ (r : VReg). Some (instr.Alu op r (register (take k p.registers) (register_name p a)) (register (take k p.registers) (register_name p b)))) (reg to s.distinct s.few s.known.0)
-        ∙ ap (λ (r : VReg). Some (instr.Alu op to r (register (take k p.registers) (register_name p b)))) (reg a s.distinct s.few (s.known.1).0)
-        ∙ ap (λ (r : VReg). Some (instr.Alu op to a r)) (reg b s.distinct s.few ((s.known.1).1).0)
-    go (instr.Div op to a b) s =
-        ap (λ (r : VReg). Some (instr.Div op r (register (take k p.registers) (register_name p a)) (register (take k p.registers) (register_name p b)))) (reg to s.distinct s.few s.known.0)
-        ∙ ap (λ (r : VReg). Some (instr.Div op to r (register (take k p.registers) (register_name p b)))) (reg a s.distinct s.few (s.known.1).0)
-        ∙ ap (λ (r : VReg). Some (instr.Div op to a r)) (reg b s.distinct s.few ((s.known.1).1).0)
-    go (instr.Ctx to) s = ap (λ (r : VReg). Some (instr.Ctx r)) (reg to s.distinct s.few s.known.0)
-    go (instr.Jmp t) s = ap (λ (j : ℕ). Some (instr.Jmp j)) (goal (instr.Jmp t) s t refl)
-    go (instr.Branch test a b t) s =
-        ap (λ (r : VReg). Some (instr.Branch test r (register (take k p.registers) (register_name p b)) (target all (target_name p.labels t)))) (reg a s.distinct s.few s.known.0)
-        ∙ ap (λ (r : VReg). Some (instr.Branch test a r (target all (target_name p.labels t)))) (reg b s.distinct s.few (s.known.1).0)
-        ∙ ap (λ (j : ℕ). Some (instr.Branch test a b j)) (goal (instr.Branch test a b t) s t refl)
-    go (instr.Load to address) s =
-        ap (λ (r : VReg). Some (instr.Load r (register (take k p.registers) (register_name p address)))) (reg to s.distinct s.few s.known.0)
-        ∙ ap (λ (r : VReg). Some (instr.Load to r)) (reg address s.distinct s.few (s.known.1).0)
-    go (instr.Store address from) s =
-        ap (λ (r : VReg). Some (instr.Store r (register (take k p.registers) (register_name p from)))) (reg address s.distinct s.few s.known.0)
-        ∙ ap (λ (r : VReg). Some (instr.Store address r)) (reg from s.distinct s.few (s.known.1).0)
-    go instr.Yield s = refl
-    go (instr.Recv to channel) s =
-        ap (λ (r : VReg). Some (instr.Recv r (place_of chs (name_at chs channel)))) (reg to s.distinct s.few s.known.0)
-        ∙ ap (λ (j : ℕ). Some (instr.Recv to j)) (met chs kinds channel s.channels (giver kinds channel s.fits)).place
-    go (instr.Send channel from) s =
-        ap (λ (j : ℕ). Some (instr.Send j (register (take k p.registers) (register_name p from)))) (met chs kinds channel s.channels (taker kinds channel s.fits)).place
-        ∙ ap (λ (r : VReg). Some (instr.Send channel r)) (reg from s.distinct s.few s.known.0)
-    go instr.Halt s = refl
+instr_again chs kinds p k all i names targets s =
+    let x = operands_of i in
+    let known = known_each k x.to x.a x.b s.known in
+    let to = register_told chs kinds p k all names targets x.to s.distinct s.few known.0 in
+    let a = register_told chs kinds p k all names targets x.a s.distinct s.few known.1 in
+    let b = register_told chs kinds p k all names targets x.b s.distinct s.few known.2 in
+    let extra = extra_told chs kinds p k all names targets x.extra s.labels s.label_names s.labelled s.channels s.fits s.number in
+    let told : each (register (take k p.registers)) number_or (target all) (place_of chs) (spelt chs p x) ≡ x = rw (to, a, b, extra) refl in
+    ap (λ (y : Operands VReg ℕ ℕ). instr_of (operation_of i) y) told ∙ laws.made_again i

@@ -5,6 +5,7 @@ mod FreeTests
 mod HeaderAgain
 mod InTurn
 mod InstructionAgain
+mod Mnemonics
 mod Labels
 mod Lines
 mod Plain

@@ -1,17 +1,19 @@
 -- The words of a formed bundle's canonical text are found again in its bytes.
-use Rattle.std.proofs.Common.{◌≡◌, ◌++◌, ◌<◌, ◌≤◌, ◌^◌, ℕ, ◌+◌, Bool, true, false, List, [], ◌∷◌, Option, Some, None, refl, sym, ap, ◌∙◌, arith, length, map, decimal, codes, slice_get, nat_lt, nat_le, cond, subst, append_assoc, ◌==◌}
+use Rattle.std.proofs.Common.{◌≡◌, ◌++◌, ◌<◌, ◌^◌, ℕ, ◌+◌, Bool, true, false, List, [], ◌∷◌, Option, Some, None, refl, sym, ap, ◌∙◌, arith, length, map, decimal, codes, slice_get, nat_lt, nat_le, cond, subst, append_assoc, ◌==◌}
 use Rattle.std.proofs.lemmas.Bool.{and_parts, and_from, ltb-true, leb-true}
 use Rattle.std.proofs.lemmas.List.Elements.{filter_map-append}
 use Rattle.std.proofs.lemmas.List.Folds.{list_all-append}
-use Rattle.std.specs.List.{list_all, flat_map, AllByRecursion, filter_map}
-use Rattle.micro_isa.specs.declared.arithmetic.AluOp.{AluOp}
-use Rattle.micro_isa.specs.declared.arithmetic.AluOp.TheVariants as op
-use Rattle.micro_isa.specs.declared.arithmetic.DivOp.{DivOp}
-use Rattle.micro_isa.specs.declared.arithmetic.DivOp.TheVariants as division
-use Rattle.micro_isa.specs.declared.arithmetic.Test.{Test}
-use Rattle.micro_isa.specs.declared.arithmetic.Test.TheVariants as test
+use Rattle.std.specs.List.{list_all, flat_map, AllByRecursion, filter_map, cons_option}
+use Rattle.std.specs.Option.{option_map}
+use Rattle.std.specs.Prelude.{is_some, unwrap_or}
 use Rattle.micro_isa.specs.declared.instr.Instr.{Instr}
-use Rattle.micro_isa.specs.declared.instr.Instr.TheVariants as instr
+use Rattle.micro_isa.specs.declared.operation.Role.{Role}
+use Rattle.micro_isa.specs.declared.operation.Role.TheVariants.{To, A, B}
+use Rattle.micro_isa.specs.declared.operation.Role.TheVariants as role
+use Rattle.micro_isa.specs.declared.operands.Extra.{Extra}
+use Rattle.micro_isa.specs.declared.operands.Extra.TheVariants.{Nothing, Number, Target, Receive, Send}
+use Rattle.micro_isa.specs.declared.operands.Operands.{Operands}
+use Rattle.micro_isa.specs.declared.limits.TheConstants.{MOST_PORTS, MOST_RING}
 use Rattle.micro_isa.specs.declared.program.VReg.{VReg}
 use Rattle.micro_isa.specs.declared.program.Line.{Line}
 use Rattle.micro_isa.specs.declared.program.Label.{Label}
@@ -21,14 +23,19 @@ use Rattle.micro_isa.specs.declared.program.Channel.TheVariants as channel
 use Rattle.micro_isa.specs.declared.program.Program.{Program}
 use Rattle.micro_isa.specs.declared.program.Bundle.{Bundle}
 use Rattle.micro_isa.specs.Names.{name_test}
+use Rattle.micro_isa.specs.Columns.{target_in}
 use Rattle.micro_isa.specs.Formed as formed
+use Rattle.micro_isa.specs.Operands.{operation_of, operands_of}
+use Rattle.micro_isa.specs.Table.{row_of, roles_of}
+use Rattle.asm_context.specs.Spelt.{each_extra}
 use Rattle.asm_lines.specs.Cutting.{Words}
 use Rattle.asm_print.specs.Rows.{Row, Flush}
-use Rattle.asm_print.specs.Canonical.{alu_word, div_word, branch_word, name_at, register_name, target_name, labels_at, label_row, instruction_row, line_rows, code_rows, context_rows, words_rows, input_row, output_row, channel_rows, channels_rows, header_rows, canonical_rows}
+use Rattle.asm_print.specs.Canonical.{spelt, extra_word, word_in, name_at, register_name, target_name, labels_at, label_row, instruction_row, line_rows, code_rows, context_rows, words_rows, input_row, output_row, channel_rows, channels_rows, header_rows, canonical_rows}
 use Rattle.asm_print.proofs.Plain.{is_plain, is_plain_word, is_plain_row}
-use Rattle.asm_print.specs.Typed.{WordsFit, NumberFits, IsTyped}
+use Rattle.asm_print.specs.Typed.{WordsFit, ExtraFits, NumberFits, IsTyped}
 use Rattle.asm_print.proofs.ContextAgain.{Good, there, number_there}
-use Rattle.asm_print.proofs.InstructionAgain.{named_at, reached, met, giver, taker, numbers_of}
+use Rattle.asm_print.proofs.InstructionAgain.{is_there, is_named, written, named_at, reached, met, giver, taker, numbers_of}
+use Rattle.asm_print.proofs.Mnemonics.{mnemonic_plain}
 use Rattle.asm_print.proofs.Words.{name_plain, number_plain}
 
 and_on : (w : List ℕ) (ws : Words) → is_plain_word w ≡ true → list_all is_plain_word ws ≡ true → list_all is_plain_word (w ∷ ws) ≡ true
@@ -38,9 +45,21 @@ plain : (ws : Words) → AllByRecursion (λ w. is_plain_word w ≡ true) ws → 
 plain [] a = refl
 plain (w ∷ ws) a = and_on w ws a.0 (plain ws a.1)
 
-each_below : (n : ℕ) (rs : List ℕ) → formed.all_below n rs ≡ true → AllByRecursion (λ r. nat_lt r n ≡ true) rs
-each_below n [] e = tt
-each_below n (r ∷ rs) e = let a = and_parts (nat_lt r n) (formed.all_below n rs) e in (a.0, each_below n rs a.1)
+-- a register that there may be is below a bound
+abbrev AllBelow : ℕ → Option VReg → Type 0
+AllBelow n None = Unit {0}
+AllBelow n (Some r) = nat_lt r.0 n ≡ true
+
+below_rest : (n : ℕ) (r : Option VReg) (rs : List VReg) → formed.all_below n (map (λ (r : VReg). r.0) (cons_option r rs)) ≡ true → AllBelow n r × (formed.all_below n (map (λ (r : VReg). r.0) rs) ≡ true)
+below_rest n None rs e = (tt, e)
+below_rest n (Some r) rs e = and_parts (nat_lt r.0 n) (formed.all_below n (map (λ (r : VReg). r.0) rs)) e
+
+each_below : (n : ℕ) (to a b : Option VReg) → formed.all_below n (map (λ (r : VReg). r.0) (cons_option to (cons_option a (cons_option b [])))) ≡ true → AllBelow n to × AllBelow n a × AllBelow n b
+each_below n to a b e =
+    let first = below_rest n to (cons_option a (cons_option b [])) e in
+    let second = below_rest n a (cons_option b []) first.1 in
+    let third = below_rest n b [] second.1 in
+    (first.0, second.0, third.0)
 
 rows_on : (r : Row) (rs : List Row) → is_plain_row r ≡ true → list_all is_plain_row rs ≡ true → list_all is_plain_row (r ∷ rs) ≡ true
 rows_on r rs e f = and_from (is_plain_row r) (list_all is_plain_row rs) e f
@@ -59,26 +78,23 @@ words_plain name [] e a = refl
 words_plain name (n ∷ ns) e a =
     rows_on (Flush (codes "words" ∷ name ∷ map decimal (n ∷ ns))) [] (and_on (codes "words") (name ∷ map decimal (n ∷ ns)) refl (and_on name (map decimal (n ∷ ns)) e (numbers_plain (n ∷ ns) a))) refl
 
-small_plain : (n : ℕ) → n ≤ 65536 → is_plain_word (decimal n) ≡ true
-small_plain n h = number_plain n (omega arith)
-
 ring_plain : (n : ℕ) → formed.is_ring_size n ≡ true → is_plain_word (decimal n) ≡ true
-ring_plain n e = small_plain n (omega (arith, leb-true n 1024 (and_parts (nat_le 1 n) (nat_le n 1024) e).1))
+ring_plain n e = number_plain n (omega (arith, leb-true n MOST_RING (and_parts (nat_le 1 n) (nat_le n MOST_RING) e).1))
 
-input_plain : (name : List ℕ) (port : Option PortUse) → is_plain_word name ≡ true → formed.has_formed_ring (channel.Input [] port) ≡ true → formed.all_below 16 (filter_map formed.port_of (channel.Input [] port ∷ [])) ≡ true → is_plain_row (input_row name port) ≡ true
+input_plain : (name : List ℕ) (port : Option PortUse) → is_plain_word name ≡ true → formed.has_formed_ring (channel.Input [] port) ≡ true → formed.all_below MOST_PORTS (filter_map formed.port_of (channel.Input [] port ∷ [])) ≡ true → is_plain_row (input_row name port) ≡ true
 input_plain name None e r b = plain (codes "input" ∷ name ∷ []) (refl, (e, tt))
 input_plain name (Some port) e r b =
-    let p = ltb-true port.number 16 (and_parts (nat_lt port.number 16) true b).0 in
+    let p = ltb-true port.number MOST_PORTS (and_parts (nat_lt port.number MOST_PORTS) true b).0 in
     plain (codes "input" ∷ name ∷ codes "port" ∷ decimal port.number ∷ decimal port.capacity ∷ [])
-    (refl, (e, (refl, (small_plain port.number (omega arith), (ring_plain port.capacity r, tt)))))
+    (refl, (e, (refl, (number_plain port.number (omega arith), (ring_plain port.capacity r, tt)))))
 
-output_plain : (name : List ℕ) (port : Option ℕ) → is_plain_word name ≡ true → formed.all_below 16 (filter_map formed.port_of (channel.Output port ∷ [])) ≡ true → is_plain_row (output_row name port) ≡ true
+output_plain : (name : List ℕ) (port : Option ℕ) → is_plain_word name ≡ true → formed.all_below MOST_PORTS (filter_map formed.port_of (channel.Output port ∷ [])) ≡ true → is_plain_row (output_row name port) ≡ true
 output_plain name None e b = plain (codes "output" ∷ name ∷ []) (refl, (e, tt))
 output_plain name (Some port) e b =
-    let p = ltb-true port 16 (and_parts (nat_lt port 16) true b).0 in
-    plain (codes "output" ∷ name ∷ codes "port" ∷ decimal port ∷ []) (refl, (e, (refl, (small_plain port (omega arith), tt))))
+    let p = ltb-true port MOST_PORTS (and_parts (nat_lt port MOST_PORTS) true b).0 in
+    plain (codes "output" ∷ name ∷ codes "port" ∷ decimal port ∷ []) (refl, (e, (refl, (number_plain port (omega arith), tt))))
 
-channel_plain : (name : List ℕ) (c : Channel) → name_test name ≡ true → formed.has_formed_ring c ≡ true → formed.all_below 16 (filter_map formed.port_of (c ∷ [])) ≡ true → WordsFit c → list_all is_plain_row (channel_rows name c) ≡ true
+channel_plain : (name : List ℕ) (c : Channel) → name_test name ≡ true → formed.has_formed_ring c ≡ true → formed.all_below MOST_PORTS (filter_map formed.port_of (c ∷ [])) ≡ true → WordsFit c → list_all is_plain_row (channel_rows name c) ≡ true
 channel_plain name (channel.Inner size) e r b w =
     rows_on (Flush (codes "inner" ∷ name ∷ decimal size ∷ [])) [] (plain (codes "inner" ∷ name ∷ decimal size ∷ []) (refl, (name_plain name e, (ring_plain size r, tt)))) refl
 channel_plain name (channel.Input ns None) e r b w =
@@ -87,12 +103,12 @@ channel_plain name (channel.Input ns (Some port)) e r b w =
     rows_on (input_row name (Some port)) (words_rows name ns) (input_plain name (Some port) (name_plain name e) r b) (words_plain name ns (name_plain name e) w)
 channel_plain name (channel.Output port) e r b w = rows_on (output_row name port) [] (output_plain name port (name_plain name e) b) refl
 
-ports_parts : (c : Channel) (cs : List Channel) → formed.all_below 16 (filter_map formed.port_of (c ∷ cs)) ≡ true → (formed.all_below 16 (filter_map formed.port_of (c ∷ [])) ≡ true) × (formed.all_below 16 (filter_map formed.port_of cs) ≡ true)
+ports_parts : (c : Channel) (cs : List Channel) → formed.all_below MOST_PORTS (filter_map formed.port_of (c ∷ cs)) ≡ true → (formed.all_below MOST_PORTS (filter_map formed.port_of (c ∷ [])) ≡ true) × (formed.all_below MOST_PORTS (filter_map formed.port_of cs) ≡ true)
 ports_parts c cs e =
-    and_parts (formed.all_below 16 (filter_map formed.port_of (c ∷ []))) (formed.all_below 16 (filter_map formed.port_of cs))
-    (sym (list_all-append (λ p. nat_lt p 16) (filter_map formed.port_of (c ∷ [])) (filter_map formed.port_of cs)) ∙ ap (formed.all_below 16) (sym (filter_map-append formed.port_of (c ∷ []) cs)) ∙ e)
+    and_parts (formed.all_below MOST_PORTS (filter_map formed.port_of (c ∷ []))) (formed.all_below MOST_PORTS (filter_map formed.port_of cs))
+    (sym (list_all-append (λ p. nat_lt p MOST_PORTS) (filter_map formed.port_of (c ∷ [])) (filter_map formed.port_of cs)) ∙ ap (formed.all_below MOST_PORTS) (sym (filter_map-append formed.port_of (c ∷ []) cs)) ∙ e)
 
-channels_plain : (names : Words) (cs : List Channel) → list_all name_test names ≡ true → list_all formed.has_formed_ring cs ≡ true → formed.all_below 16 (filter_map formed.port_of cs) ≡ true → AllByRecursion WordsFit cs → list_all is_plain_row (channels_rows names cs) ≡ true
+channels_plain : (names : Words) (cs : List Channel) → list_all name_test names ≡ true → list_all formed.has_formed_ring cs ≡ true → formed.all_below MOST_PORTS (filter_map formed.port_of cs) ≡ true → AllByRecursion WordsFit cs → list_all is_plain_row (channels_rows names cs) ≡ true
 channels_plain [] cs e r b w = refl
 channels_plain (n ∷ ns) [] e r b w = refl
 channels_plain (n ∷ ns) (c ∷ cs) e r b w =
@@ -104,61 +120,51 @@ channels_plain (n ∷ ns) (c ∷ cs) e r b w =
 header_plain : (b : Bundle) → formed.IsFormedBundle b → IsTyped b → list_all is_plain_row (header_rows b) ≡ true
 header_plain b f t =
     rows_on (Flush (codes "file" ∷ decimal b.file ∷ [])) (Flush (codes "memory" ∷ decimal b.setting.memory ∷ []) ∷ channels_rows b.names b.setting.channels)
-    (plain (codes "file" ∷ decimal b.file ∷ []) (refl, (small_plain b.file (omega (arith, f.small)), tt)))
+    (plain (codes "file" ∷ decimal b.file ∷ []) (refl, (number_plain b.file (omega (arith, f.small)), tt)))
     (rows_on (Flush (codes "memory" ∷ decimal b.setting.memory ∷ [])) (channels_rows b.names b.setting.channels)
-    (plain (codes "memory" ∷ decimal b.setting.memory ∷ []) (refl, (small_plain b.setting.memory f.setting.memory, tt)))
+    (plain (codes "memory" ∷ decimal b.setting.memory ∷ []) (refl, (number_plain b.setting.memory (omega (arith, f.setting.memory)), tt)))
     (channels_plain b.names b.setting.channels t.names f.setting.rings f.setting.ports t.words))
 
 -- ---- contexts
 
-alu_plain : (o : AluOp) → is_plain_word (alu_word o) ≡ true
-alu_plain op.Add = refl
-alu_plain op.Sub = refl
-alu_plain op.Mul = refl
-alu_plain op.And = refl
-alu_plain op.Or = refl
-alu_plain op.Xor = refl
-alu_plain op.Shl = refl
-alu_plain op.Shr = refl
-alu_plain op.Ltu = refl
-alu_plain op.Eq = refl
-
-div_plain : (o : DivOp) → is_plain_word (div_word o) ≡ true
-div_plain division.Quotient = refl
-div_plain division.Remainder = refl
-
-branch_plain : (t : Test) → is_plain_word (branch_word t) ≡ true
-branch_plain test.Eq = refl
-branch_plain test.Ne = refl
-branch_plain test.Ltu = refl
-branch_plain test.Geu = refl
-
-instruction_plain : (chs : Words) (kinds : List Channel) (p : Program) (i : Instr VReg) → Good chs kinds p → AllByRecursion (λ r. nat_lt r (length p.registers) ≡ true) (numbers_of i) → formed.is_labelled p.labels (formed.target_of i) ≡ true → formed.fits_channels kinds i ≡ true → NumberFits i → is_plain_row (instruction_row chs p i) ≡ true
-instruction_plain chs kinds p i good below labelled fits number = go i below labelled fits number
+instruction_plain : (chs : Words) (kinds : List Channel) (p : Program) (i : Instr VReg) → Good chs kinds p → formed.all_below (length p.registers) (numbers_of i) ≡ true → formed.is_labelled p.labels (formed.target_of i) ≡ true → formed.fits_channels kinds i ≡ true → NumberFits i → is_plain_row (instruction_row chs p i) ≡ true
+instruction_plain chs kinds p i good below labelled fits number =
+    and_on (row_of (operation_of i)).mnemonic (map (word_in (spelt chs p x)) (roles_of (operation_of i))) (mnemonic_plain (operation_of i)) (words (roles_of (operation_of i)) (written chs p i).there)
   where
-    reg : (r : VReg) → nat_lt r.0 (length p.registers) ≡ true → is_plain_word (register_name p r) ≡ true
-    reg r b = name_plain (register_name p r) (named_at p.registers r.0 good.typed.registers (ltb-true r.0 (length p.registers) b))
+    x : Operands VReg ℕ ℕ
+    x = operands_of i
 
-    goal : (t : ℕ) → formed.is_labelled p.labels (Some t) ≡ true → is_plain_word (target_name p.labels t) ≡ true
-    goal t e = name_plain (target_name p.labels t) (reached p.labels t good.typed.labels good.formed.label_names e).named
+    registers : AllBelow (length p.registers) x.to × AllBelow (length p.registers) x.a × AllBelow (length p.registers) x.b
+    registers = each_below (length p.registers) x.to x.a x.b below
 
-    chan : (k : ℕ) → k < length kinds → is_plain_word (name_at chs k) ≡ true
-    chan k h = name_plain (name_at chs k) (met chs kinds k good.channels h).named
+    register : (r : Option VReg) → is_some r ≡ true → AllBelow (length p.registers) r → is_plain_word (unwrap_or (option_map (register_name p) r) []) ≡ true
+    register None e b = absurd (cc)
+    register (Some r) e b = name_plain (register_name p r) (named_at p.registers r.0 good.typed.registers (ltb-true r.0 (length p.registers) b))
 
-    go : (i : Instr VReg) → AllByRecursion (λ r. nat_lt r (length p.registers) ≡ true) (numbers_of i) → formed.is_labelled p.labels (formed.target_of i) ≡ true → formed.fits_channels kinds i ≡ true → NumberFits i → is_plain_row (instruction_row chs p i) ≡ true
-    go (instr.Li to n) b l f h = plain (codes "li" ∷ register_name p to ∷ decimal n ∷ []) (refl, (reg to b.0, (number_plain n h, tt)))
-    go (instr.Mov to from) b l f h = plain (codes "mov" ∷ register_name p to ∷ register_name p from ∷ []) (refl, (reg to b.0, (reg from (b.1).0, tt)))
-    go (instr.Alu op to x y) b l f h = plain (alu_word op ∷ register_name p to ∷ register_name p x ∷ register_name p y ∷ []) (alu_plain op, (reg to b.0, (reg x (b.1).0, (reg y ((b.1).1).0, tt))))
-    go (instr.Div op to x y) b l f h = plain (div_word op ∷ register_name p to ∷ register_name p x ∷ register_name p y ∷ []) (div_plain op, (reg to b.0, (reg x (b.1).0, (reg y ((b.1).1).0, tt))))
-    go (instr.Ctx to) b l f h = plain (codes "ctx" ∷ register_name p to ∷ []) (refl, (reg to b.0, tt))
-    go (instr.Jmp t) b l f h = plain (codes "jmp" ∷ target_name p.labels t ∷ []) (refl, (goal t l, tt))
-    go (instr.Branch test x y t) b l f h = plain (branch_word test ∷ register_name p x ∷ register_name p y ∷ target_name p.labels t ∷ []) (branch_plain test, (reg x b.0, (reg y (b.1).0, (goal t l, tt))))
-    go (instr.Load to address) b l f h = plain (codes "load" ∷ register_name p to ∷ register_name p address ∷ []) (refl, (reg to b.0, (reg address (b.1).0, tt)))
-    go (instr.Store address from) b l f h = plain (codes "store" ∷ register_name p address ∷ register_name p from ∷ []) (refl, (reg address b.0, (reg from (b.1).0, tt)))
-    go instr.Yield b l f h = refl
-    go (instr.Recv to k) b l f h = plain (codes "recv" ∷ register_name p to ∷ name_at chs k ∷ []) (refl, (reg to b.0, (chan k (giver kinds k f), tt)))
-    go (instr.Send k from) b l f h = plain (codes "send" ∷ name_at chs k ∷ register_name p from ∷ []) (refl, (chan k (taker kinds k f), (reg from b.0, tt)))
-    go instr.Halt b l f h = refl
+    channel : (k : ℕ) → k < length kinds → is_plain_word (name_at chs k) ≡ true
+    channel k h = name_plain (name_at chs k) (met chs kinds k good.channels h).named
+
+    other : (y : Extra ℕ ℕ) → is_named y ≡ true → formed.is_labelled p.labels (target_in y) ≡ true → formed.fits_extra kinds y ≡ true → ExtraFits y → is_plain_word (extra_word (each_extra decimal (target_name p.labels) (name_at chs) y)) ≡ true
+    other Nothing e l f n = absurd (cc)
+    other (Number m) e l f n = number_plain m n
+    other (Target t) e l f n = name_plain (target_name p.labels t) (reached p.labels t good.typed.labels good.formed.label_names l).named
+    other (Receive k) e l f n = channel k (giver kinds k f)
+    other (Send k) e l f n = channel k (taker kinds k f)
+
+    word : (r : Role) → is_there x r ≡ true → is_plain_word (word_in (spelt chs p x) r) ≡ true
+    word To e = register x.to e registers.0
+    word A e = register x.a e registers.1
+    word B e = register x.b e registers.2
+    word role.Number e = other x.extra e labelled fits number
+    word role.Target e = other x.extra e labelled fits number
+    word role.Receive e = other x.extra e labelled fits number
+    word role.Send e = other x.extra e labelled fits number
+
+    words : (rs : List Role) → list_all (is_there x) rs ≡ true → list_all is_plain_word (map (word_in (spelt chs p x)) rs) ≡ true
+    words [] e = refl
+    words (r ∷ rs) e =
+        let both = and_parts (is_there x r) (list_all (is_there x) rs) e in
+        and_on (word_in (spelt chs p x) r) (map (word_in (spelt chs p x)) rs) (word r both.0) (words rs both.1)
 
 ended_plain : (w : List ℕ) → is_plain_word w ≡ true → is_plain_word (w ++ codes ":") ≡ true
 ended_plain [] e = refl
@@ -185,7 +191,7 @@ code_plain chs kinds p good at done (l ∷ ls) e =
     let number = number_there (λ l. NumberFits l.instr) done l ls (subst (AllByRecursion (λ (l : Line). NumberFits l.instr)) (sym e) good.typed.numbers) in
     rows_both (line_rows chs p at l) (code_rows chs p (at + 1) ls)
     (rows_both (map label_row (labels_at p.labels at)) (instruction_row chs p l.instr ∷ []) (labels_plain at p.labels good.typed.labels)
-    (rows_on (instruction_row chs p l.instr) [] (instruction_plain chs kinds p l.instr good (each_below (length p.registers) (numbers_of l.instr) below) (good.formed.labelled (length done) l here) (good.fits (length done) l here) number) refl))
+    (rows_on (instruction_row chs p l.instr) [] (instruction_plain chs kinds p l.instr good below (good.formed.labelled (length done) l here) (good.fits (length done) l here) number) refl))
     (code_plain chs kinds p good (at + 1) (done ++ l ∷ []) ls (append_assoc done (l ∷ []) ls ∙ e))
 
 contexts_plain : (chs : Words) (kinds : List Channel) (ps : List Program) → AllByRecursion (Good chs kinds) ps → list_all is_plain_row (flat_map (context_rows chs) ps) ≡ true

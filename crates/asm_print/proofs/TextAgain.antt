@@ -6,11 +6,8 @@ use Rattle.std.proofs.lemmas.List.Folds.{list_all-append, list_any-append}
 use Rattle.std.proofs.lemmas.Slice.Eq.{bytes_eq-Decides}
 use Rattle.std.specs.List.{list_all, list_any, flat_map, AllByRecursion}
 use Rattle.std.specs.Str.{bytes_eq}
-use Rattle.micro_isa.specs.declared.arithmetic.AluOp.TheVariants as op
-use Rattle.micro_isa.specs.declared.arithmetic.DivOp.TheVariants as division
-use Rattle.micro_isa.specs.declared.arithmetic.Test.TheVariants as test
 use Rattle.micro_isa.specs.declared.instr.Instr.{Instr}
-use Rattle.micro_isa.specs.declared.instr.Instr.TheVariants as instr
+use Rattle.micro_isa.specs.declared.limits.TheConstants.{MOST_CONTEXTS}
 use Rattle.micro_isa.specs.declared.program.VReg.{VReg}
 use Rattle.micro_isa.specs.declared.program.Line.{Line}
 use Rattle.micro_isa.specs.declared.program.Label.{Label}
@@ -42,6 +39,8 @@ use Rattle.asm_print.proofs.ContextLines.{label_again}
 use Rattle.asm_print.proofs.FreeTests.{no_kind}
 use Rattle.asm_print.proofs.HeaderAgain.{header_leads, so_far}
 use Rattle.asm_print.proofs.InstructionAgain.{Channelled, body_again, shape}
+use Rattle.asm_print.proofs.Mnemonics.{mnemonic_stays}
+use Rattle.micro_isa.specs.Operands.{operation_of}
 use Rattle.asm_print.proofs.Lines.{lines-append}
 use Rattle.asm_print.proofs.PlainRows.{all_rows_plain}
 use Rattle.asm_print.proofs.Tables.{fresh, declare_new}
@@ -82,32 +81,7 @@ header_stays : (b : Bundle) → list_all stays (header_rows b) ≡ true
 header_stays b = channels_stay b.names b.setting.channels
 
 instruction_stays : (chs : Words) (p : Program) (i : Instr VReg) → stays (instruction_row chs p i) ≡ true
-instruction_stays chs p (instr.Li to n) = refl
-instruction_stays chs p (instr.Mov to from) = refl
-instruction_stays chs p (instr.Alu op.Add to a b) = refl
-instruction_stays chs p (instr.Alu op.Sub to a b) = refl
-instruction_stays chs p (instr.Alu op.Mul to a b) = refl
-instruction_stays chs p (instr.Alu op.And to a b) = refl
-instruction_stays chs p (instr.Alu op.Or to a b) = refl
-instruction_stays chs p (instr.Alu op.Xor to a b) = refl
-instruction_stays chs p (instr.Alu op.Shl to a b) = refl
-instruction_stays chs p (instr.Alu op.Shr to a b) = refl
-instruction_stays chs p (instr.Alu op.Ltu to a b) = refl
-instruction_stays chs p (instr.Alu op.Eq to a b) = refl
-instruction_stays chs p (instr.Div division.Quotient to a b) = refl
-instruction_stays chs p (instr.Div division.Remainder to a b) = refl
-instruction_stays chs p (instr.Ctx to) = refl
-instruction_stays chs p (instr.Jmp target) = refl
-instruction_stays chs p (instr.Branch test.Eq a b target) = refl
-instruction_stays chs p (instr.Branch test.Ne a b target) = refl
-instruction_stays chs p (instr.Branch test.Ltu a b target) = refl
-instruction_stays chs p (instr.Branch test.Geu a b target) = refl
-instruction_stays chs p (instr.Load to address) = refl
-instruction_stays chs p (instr.Store address from) = refl
-instruction_stays chs p instr.Yield = refl
-instruction_stays chs p (instr.Recv to channel) = refl
-instruction_stays chs p (instr.Send channel from) = refl
-instruction_stays chs p instr.Halt = refl
+instruction_stays chs p i = mnemonic_stays (operation_of i)
 
 -- the word `context` ends with no colon
 label_stays : (l : Label) → stays (label_row l) ≡ true
@@ -182,7 +156,7 @@ code_does chs p n at (l ∷ ls) h =
 -- contexts whose names are new behind these
 record Behind (before : Words) (ps : List Program) : Type 0 where
   distinct : is_distinct bytes_eq (before ++ map (λ p. p.name) ps) ≡ true
-  few : length before + length ps ≤ 8
+  few : length before + length ps ≤ MOST_CONTEXTS
 
 record Told (h : Header) (before : Words) (n : ℕ) (ps : List Program) : Type 0 where
   free : contexts_fault h before (lines_with n (flat_map (context_rows h.names) ps)) ≡ None
@@ -200,7 +174,7 @@ start_free h file before n p lines f named few new does =
         (
           ap (λ (b : Bool). not b || false) named,
           (
-            lt-leb 8 (length before) few,
+            lt-leb MOST_CONTEXTS (length before) few,
             (
               ap (λ (b : Bool). b || false) new,
               (

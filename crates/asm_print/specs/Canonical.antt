@@ -1,14 +1,12 @@
 -- The canonical text of a bundle.
 use Rattle.std.specs.Prelude.{ℕ, ◌+◌, ◌==◌, List, [], ◌∷◌, ◌++◌, map, filter, Option, Some, None, slice_get, unwrap_or, decimal, codes}
 use Rattle.std.specs.List.{flat_map, zip}
-use Rattle.micro_isa.specs.declared.arithmetic.AluOp.{AluOp}
-use Rattle.micro_isa.specs.declared.arithmetic.AluOp.TheVariants as op
-use Rattle.micro_isa.specs.declared.arithmetic.DivOp.{DivOp}
-use Rattle.micro_isa.specs.declared.arithmetic.DivOp.TheVariants.{Quotient, Remainder}
-use Rattle.micro_isa.specs.declared.arithmetic.Test.{Test}
-use Rattle.micro_isa.specs.declared.arithmetic.Test.TheVariants as test
 use Rattle.micro_isa.specs.declared.instr.Instr.{Instr}
-use Rattle.micro_isa.specs.declared.instr.Instr.TheVariants.{Li, Mov, Alu, Div, Ctx, Jmp, Branch, Load, Store, Yield, Recv, Send, Halt}
+use Rattle.micro_isa.specs.declared.operation.Role.{Role}
+use Rattle.micro_isa.specs.declared.operation.Role.TheVariants.{To, A, B}
+use Rattle.micro_isa.specs.declared.operands.Extra.{Extra}
+use Rattle.micro_isa.specs.declared.operands.Extra.TheVariants.{Nothing, Number, Target, Receive, Send}
+use Rattle.micro_isa.specs.declared.operands.Operands.{Operands}
 use Rattle.micro_isa.specs.declared.program.VReg.{VReg}
 use Rattle.micro_isa.specs.declared.program.Line.{Line}
 use Rattle.micro_isa.specs.declared.program.Label.{Label}
@@ -17,29 +15,10 @@ use Rattle.micro_isa.specs.declared.program.PortUse.{PortUse}
 use Rattle.micro_isa.specs.declared.program.Channel.{Channel}
 use Rattle.micro_isa.specs.declared.program.Channel.TheVariants.{Inner, Input, Output}
 use Rattle.micro_isa.specs.declared.program.Bundle.{Bundle}
+use Rattle.micro_isa.specs.Operands.{operation_of, operands_of}
+use Rattle.micro_isa.specs.Table.{row_of, roles_of}
+use Rattle.asm_context.specs.Spelt.{Spelt, each}
 use Rattle.asm_print.specs.Rows.{Row, Flush, Indented, rows_text}
-
-abbrev pub alu_word : AluOp → List ℕ
-alu_word op.Add = codes "add"
-alu_word op.Sub = codes "sub"
-alu_word op.Mul = codes "mul"
-alu_word op.And = codes "and"
-alu_word op.Or = codes "or"
-alu_word op.Xor = codes "xor"
-alu_word op.Shl = codes "shl"
-alu_word op.Shr = codes "shr"
-alu_word op.Ltu = codes "ltu"
-alu_word op.Eq = codes "eq"
-
-abbrev pub div_word : DivOp → List ℕ
-div_word Quotient = codes "div"
-div_word Remainder = codes "rem"
-
-abbrev pub branch_word : Test → List ℕ
-branch_word test.Eq = codes "beq"
-branch_word test.Ne = codes "bne"
-branch_word test.Ltu = codes "bltu"
-branch_word test.Geu = codes "bgeu"
 
 -- the name with this number; formed bundles have it
 abbrev pub name_at : List (List ℕ) → ℕ → List ℕ
@@ -60,24 +39,31 @@ first_name (l ∷ ls) = l.name
 abbrev pub target_name : List Label → ℕ → List ℕ
 target_name labels target = first_name (labels_at labels target)
 
--- an instruction of a program, over the names of the channels
+-- operands by the names of a program's registers and labels, and of the channels
+abbrev pub spelt : List (List ℕ) → Program → Operands VReg ℕ ℕ → Spelt
+spelt channels p x = each (register_name p) decimal (target_name p.labels) (name_at channels) x
+
+abbrev or_empty : Option (List ℕ) → List ℕ
+or_empty o = unwrap_or o []
+
+abbrev pub extra_word : Extra (List ℕ) (List ℕ) → List ℕ
+extra_word Nothing = []
+extra_word (Number w) = w
+extra_word (Target w) = w
+extra_word (Receive w) = w
+extra_word (Send w) = w
+
+-- the word in a role
+abbrev pub word_in : Spelt → Role → List ℕ
+word_in x To = or_empty x.to
+word_in x A = or_empty x.a
+word_in x B = or_empty x.b
+word_in x _ = extra_word x.extra
+
+-- an instruction of a program: its mnemonic, and its operands in the order of the text
 abbrev pub instruction_row : List (List ℕ) → Program → Instr VReg → Row
-instruction_row channels p (Li to n) = Indented (codes "li") (register_name p to ∷ decimal n ∷ [])
-instruction_row channels p (Mov to from) = Indented (codes "mov") (register_name p to ∷ register_name p from ∷ [])
-instruction_row channels p (Alu op to a b) =
-    Indented (alu_word op) (register_name p to ∷ register_name p a ∷ register_name p b ∷ [])
-instruction_row channels p (Div op to a b) =
-    Indented (div_word op) (register_name p to ∷ register_name p a ∷ register_name p b ∷ [])
-instruction_row channels p (Ctx to) = Indented (codes "ctx") (register_name p to ∷ [])
-instruction_row channels p (Jmp target) = Indented (codes "jmp") (target_name p.labels target ∷ [])
-instruction_row channels p (Branch test a b target) =
-    Indented (branch_word test) (register_name p a ∷ register_name p b ∷ target_name p.labels target ∷ [])
-instruction_row channels p (Load to address) = Indented (codes "load") (register_name p to ∷ register_name p address ∷ [])
-instruction_row channels p (Store address from) = Indented (codes "store") (register_name p address ∷ register_name p from ∷ [])
-instruction_row channels p Yield = Indented (codes "yield") []
-instruction_row channels p (Recv to channel) = Indented (codes "recv") (register_name p to ∷ name_at channels channel ∷ [])
-instruction_row channels p (Send channel from) = Indented (codes "send") (name_at channels channel ∷ register_name p from ∷ [])
-instruction_row channels p Halt = Indented (codes "halt") []
+instruction_row channels p i =
+    Indented (row_of (operation_of i)).mnemonic (map (word_in (spelt channels p (operands_of i))) (roles_of (operation_of i)))
 
 abbrev pub label_row : Label → Row
 label_row l = Flush ((l.name ++ codes ":") ∷ [])

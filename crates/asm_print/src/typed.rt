@@ -4,9 +4,9 @@
 ghost use Rattle.std.specs.Prelude.{◌≡◌, ◌<◌, ◌^◌, true};
 ghost use Rattle.std.specs.List.{list_all, AllByRecursion};
 ghost use Rattle.micro_isa.specs.Names.{name_test};
-ghost use Rattle.asm_print.specs.Typed.{NumberFits, WordsFit, IsTypedProgram, IsTyped};
+ghost use Rattle.asm_print.specs.Typed.{ExtraFits, NumberFits, WordsFit, IsTypedProgram, IsTyped};
 
-use micro_isa::{Bundle, Channel, Instr, Label, Line, Name, Program, VReg};
+use micro_isa::{Bundle, Channel, Extra, Instr, Label, Line, Name, Program, VReg, operands_of};
 
 pub(crate) fn typed_bundle(bundle: &Bundle)
     ensures { IsTyped bundle.now }
@@ -93,7 +93,13 @@ fn typed_code(code: &[Line])
 fn typed_instr(instr: Instr<VReg>)
     ensures { NumberFits instr }
 {
-    if let Instr::Li { n, .. } = instr {
+    typed_extra(operands_of(&instr).extra);
+}
+
+fn typed_extra(extra: Extra<u32, u8>)
+    ensures { ExtraFits extra }
+{
+    if let Extra::Number(n) = extra {
         typed_number(n);
     }
 }

@@ -12,7 +12,7 @@ use Rattle.asm_lines.specs.declared.fault.BundleKind.TheVariants.{Missing}
 use Rattle.micro_isa.specs.declared.program.Bundle.{Bundle}
 use Rattle.asm_lines.specs.Cutting.{Words, TextLine, numbered, lines_from, text_lines}
 use Rattle.asm_lines.specs.Faults.{At, or_else}
-use Rattle.asm_lines.specs.Limits.{most_contexts, largest_file, largest_memory}
+use Rattle.micro_isa.specs.declared.limits.TheConstants.{MOST_CONTEXTS, MOST_FILE, MOST_MEMORY}
 use Rattle.asm_lines.specs.Tables.{knows, declare, one}
 use Rattle.asm_lines.proofs.First.{none_met, none_at, none_first}
 use Rattle.asm_lines.proofs.Known.{declare_new, distinct_snoc, other_word}
@@ -34,7 +34,7 @@ record IsStarted (h : Header) (names : Words) (line : TextLine) (lines : List Te
   name : List ℕ
   is : name_in line.words ≡ Some name
   new : knows names name ≡ false
-  room : length names < most_contexts
+  room : length names < MOST_CONTEXTS
   file : (is_none h.file && nat_eq (length names) 0) ≡ false
   some : has_instruction lines ≡ true
 
@@ -46,7 +46,7 @@ first_of : (a : Bool) → (a || false) ≡ false → a ≡ false
 first_of true e = e
 first_of false e = refl
 
-started_as : (h : Header) (names : Words) (line : TextLine) (lines : List TextLine) (o : Option (List ℕ)) → name_in line.words ≡ o → is_none o ≡ false → list_any (knows names) (one o) ≡ false → length names < most_contexts → (is_none h.file && nat_eq (length names) 0) ≡ false → has_instruction lines ≡ true → IsStarted h names line lines
+started_as : (h : Header) (names : Words) (line : TextLine) (lines : List TextLine) (o : Option (List ℕ)) → name_in line.words ≡ o → is_none o ≡ false → list_any (knows names) (one o) ≡ false → length names < MOST_CONTEXTS → (is_none h.file && nat_eq (length names) 0) ≡ false → has_instruction lines ≡ true → IsStarted h names line lines
 started_as h names line lines None is some new room file has = absurd (true≢false some)
 started_as h names line lines (Some name) is some new room file has = record {
   name = name;
@@ -60,7 +60,7 @@ started_as h names line lines (Some name) is some new room file has = record {
 started : (h : Header) (names : Words) (line : TextLine) (lines : List TextLine) → start_fault h names line lines ≡ None → IsStarted h names line lines
 started h names line lines e =
     let t = none_met (start_tests h names line lines) e in
-    started_as h names line lines (name_in line.words) refl t.1.0 t.1.1.1.1.0 (leb-false most_contexts (length names) t.1.1.1.0) t.1.1.1.1.1.0 (not_false (has_instruction lines) t.1.1.1.1.1.1.0)
+    started_as h names line lines (name_in line.words) refl t.1.0 t.1.1.1.1.0 (leb-false MOST_CONTEXTS (length names) t.1.1.1.0) t.1.1.1.1.1.0 (not_false (has_instruction lines) t.1.1.1.1.1.1.0)
 
 ahead_rises : (least : ℕ) (lines : List TextLine) → always_rises least (map (λ l. l.number) lines) ≡ true → always_rises least (map (λ l. l.number) (ahead lines)) ≡ true
 ahead_rises least [] e = refl
@@ -75,7 +75,7 @@ ahead_rises least (line ∷ lines) e =
 record AreFormed (h : Header) (names : Words) (ps : List Program) : Type 0 where
   formed : Each ps IsFormedProgram
   fits : Each ps (λ p. Each p.code (λ l. fits_channels h.channels l.instr ≡ true))
-  few : length names + length ps ≤ most_contexts
+  few : length names + length ps ≤ MOST_CONTEXTS
   apart : is_distinct bytes_eq (names ++ map (λ p. p.name) ps) ≡ true
 
 -- one context in front of others
@@ -96,11 +96,11 @@ names_apart : (h : Header) (names : Words) (line : TextLine) (lines : List TextL
 names_apart h names line lines s were =
     ap (is_distinct bytes_eq) (ap (λ o. fold declare names (one o)) s.is ∙ declare_new names s.name s.new) ∙ distinct_snoc bytes_eq other_word names s.name were s.new
 
-names_few : (h : Header) (names : Words) (line : TextLine) (lines : List TextLine) → IsStarted h names line lines → length (names_with names line) ≤ most_contexts
+names_few : (h : Header) (names : Words) (line : TextLine) (lines : List TextLine) → IsStarted h names line lines → length (names_with names line) ≤ MOST_CONTEXTS
 names_few h names line lines s =
     omega (arith, ap length (ap (λ o. fold declare names (one o)) s.is ∙ declare_new names s.name s.new), length-append names (s.name ∷ []), s.room)
 
-contexts_formed : (h : Header) (names : Words) (least : ℕ) (lines : List TextLine) → 1 ≤ least → length names ≤ most_contexts → is_distinct bytes_eq names ≡ true → always_rises least (map (λ l. l.number) lines) ≡ true → contexts_fault h names lines ≡ None → AreFormed h names (programs h lines)
+contexts_formed : (h : Header) (names : Words) (least : ℕ) (lines : List TextLine) → 1 ≤ least → length names ≤ MOST_CONTEXTS → is_distinct bytes_eq names ≡ true → always_rises least (map (λ l. l.number) lines) ≡ true → contexts_fault h names lines ≡ None → AreFormed h names (programs h lines)
 contexts_formed h names least [] le few apart rises e = record {
   formed = λ i p none. absurd (cc);
   fits = λ i p none. absurd (cc);
@@ -157,11 +157,11 @@ end_there lines e =
       | false ↦ λ f. not_none (record { line = length lines + 1; kind = Missing }) f
     ] in go (list_any (λ l. starts l.words) lines) e
 
-file_formed : (h : Header) (o : Option ℕ) → h.file ≡ o → IsSound h → is_none o ≡ false → (1 ≤ unwrap_or o 0) × (unwrap_or o 0 ≤ largest_file)
+file_formed : (h : Header) (o : Option ℕ) → h.file ≡ o → IsSound h → is_none o ≡ false → (1 ≤ unwrap_or o 0) × (unwrap_or o 0 ≤ MOST_FILE)
 file_formed h None is s some = absurd (true≢false some)
 file_formed h (Some n) is s some = s.file n is
 
-memory_formed : (h : Header) (o : Option ℕ) → h.memory ≡ o → IsSound h → unwrap_or o 0 ≤ largest_memory
+memory_formed : (h : Header) (o : Option ℕ) → h.memory ≡ o → IsSound h → unwrap_or o 0 ≤ MOST_MEMORY
 memory_formed h None is s = omega arith
 memory_formed h (Some n) is s = s.memory n is
 

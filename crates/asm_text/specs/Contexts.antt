@@ -7,7 +7,7 @@ use Rattle.asm_lines.specs.declared.fault.BundleKind.{BundleKind}
 use Rattle.asm_lines.specs.declared.fault.BundleKind.TheVariants as kind
 use Rattle.asm_lines.specs.Cutting.{Words, TextLine}
 use Rattle.asm_lines.specs.Faults.{At, first_kind, at_or, or_else}
-use Rattle.asm_lines.specs.Limits.{most_contexts}
+use Rattle.micro_isa.specs.declared.limits.TheConstants.{MOST_CONTEXTS}
 use Rattle.asm_lines.specs.Tables.{knows, declare, misnamed, one}
 use Rattle.asm_header.specs.Headers.{Header}
 use Rattle.asm_context.specs.Faults.{channels, lines_fault}
@@ -40,7 +40,7 @@ start_tests h names line lines =
     (not line.fair, kind.Byte)
     ∷ (is_none (name_in line.words), kind.Operands)
     ∷ (misnamed (one (name_in line.words)), kind.Name)
-    ∷ (nat_le most_contexts (length names), kind.Limit)
+    ∷ (nat_le MOST_CONTEXTS (length names), kind.Limit)
     ∷ (list_any (knows names) (one (name_in line.words)), kind.Repeated)
     ∷ (is_none h.file && nat_eq (length names) 0, kind.Missing)
     ∷ (not (has_instruction lines), kind.Empty)

@@ -1,15 +1,15 @@
 ghost use Rattle.std.specs.Prelude.{◌≡◌, ◌<◌, ◌≤◌, [], None, IfOk, OnOk, IfErr, length, option_map};
 ghost use Rattle.asm_lines.specs.Faults.{Causes};
-ghost use Rattle.asm_lines.specs.Limits.{most_channels};
+ghost use Rattle.micro_isa.specs.declared.limits.TheConstants.{MOST_CHANNELS};
 ghost use Rattle.asm_lines.specs.Tables.{words_seen};
 ghost use Rattle.asm_header.specs.Views.{seen_header};
 ghost use Rattle.asm_text.specs.Contexts.{starts, name_in, ahead, has_instruction, start_fault, context_fault, names_with, contexts_fault, program_at, programs};
 
 use asm_context::{is_instruction_line, read_context};
 use asm_header::Header;
-use asm_lines::{BundleFault, BundleKind, MOST_CONTEXTS, Row, declare, knows};
+use asm_lines::{BundleFault, BundleKind, Row, declare, knows};
 use indexmap::IndexSet;
-use micro_isa::{List, Program, is_name};
+use micro_isa::{List, MOST_CONTEXTS, Program, is_name};
 use std::alloc::Global;
 
 /// Whether a line of these words begins a context.
@@ -96,7 +96,7 @@ fn read_one<'a>(
     rows: &[Row<'a>],
 ) -> Result<Program, BundleFault>
     requires rows { length rows.now < 4294967295 }
-    requires channels { length header.now.names.keys ≤ most_channels }
+    requires channels { length header.now.names.keys ≤ MOST_CHANNELS }
     ensures names { OnOk result (words_seen names.new.keys ≡ names_with (words_seen names.old.keys) row.now) }
     ensures free { OnOk result (context_fault (seen_header header.now) (words_seen names.old.keys) row.now rows.now ≡ None) }
     ensures program { IfOk result (λ p. p ≡ program_at (seen_header header.now) row.now rows.now) }
@@ -127,7 +127,7 @@ pub fn read_contexts<'a>(
     rows: &[Row<'a>],
 ) -> Result<List<Program>, BundleFault>
     requires rows { length rows.now < 4294967295 }
-    requires channels { length header.now.names.keys ≤ most_channels }
+    requires channels { length header.now.names.keys ≤ MOST_CHANNELS }
     ensures free { OnOk result (contexts_fault (seen_header header.now) [] rows.now ≡ None) }
     ensures programs { IfOk result (λ all. all ≡ programs (seen_header header.now) rows.now) }
     ensures cause { IfErr result (λ why. Causes why (contexts_fault (seen_header header.now) [] rows.now)) }

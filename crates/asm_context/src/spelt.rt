@@ -1,0 +1,84 @@
+//! The operands of a line, as its words.
+
+ghost use Rattle.std.specs.Prelude.{◌≡◌, [], option_map};
+ghost use Rattle.asm_lines.specs.Tables.{words_seen};
+ghost use Rattle.asm_context.specs.Spelt.{with_word, operands_in};
+ghost use Rattle.asm_context.specs.Views.{seen_operands};
+
+use micro_isa::{Extra, Operands, Role};
+
+/// The operands of a line, as its words.
+pub type Spelt<'a> = Operands<&'a [u8], &'a [u8], &'a [u8]>;
+
+const NOTHING: Operands<&'static [u8], &'static [u8], &'static [u8]> = Operands {
+    to: None,
+    a: None,
+    b: None,
+    extra: Extra::Nothing,
+};
+
+/// The operands that these words are in these roles, where there is a word for each role.
+pub fn operands_in<'a>(roles: &[Role], words: &[&'a [u8]]) -> Option<Spelt<'a>>
+    ensures { option_map seen_operands result ≡ operands_in roles.now (words_seen words.now) }
+{
+    match roles {
+        [] => none_of(words),
+        [role, roles @ ..] => match words {
+            [] => None,
+            [word, words @ ..] => with_first(*role, word, operands_in(roles, words)),
+        },
+    }
+}
+
+fn none_of<'a>(words: &[&'a [u8]]) -> Option<Spelt<'a>>
+    ensures { option_map seen_operands result ≡ operands_in [] (words_seen words.now) }
+{
+    match words {
+        [] => Some(NOTHING),
+        _ => None,
+    }
+}
+
+fn with_first<'a>(role: Role, word: &'a [u8], later: Option<Spelt<'a>>) -> Option<Spelt<'a>>
+    ensures { option_map seen_operands result ≡ option_map (with_word role word.now) (option_map seen_operands later.entry) }
+{
+    match later {
+        Some(later) => Some(with_word(role, word, later)),
+        None => None,
+    }
+}
+
+fn with_word<'a>(role: Role, word: &'a [u8], rest: Spelt<'a>) -> Spelt<'a>
+    ensures { seen_operands result ≡ with_word role word.now (seen_operands rest.entry) }
+{
+    match role {
+        Role::To => Operands {
+            to: Some(word),
+            ..rest
+        },
+        Role::A => Operands {
+            a: Some(word),
+            ..rest
+        },
+        Role::B => Operands {
+            b: Some(word),
+            ..rest
+        },
+        Role::Number => Operands {
+            extra: Extra::Number(word),
+            ..rest
+        },
+        Role::Target => Operands {
+            extra: Extra::Target(word),
+            ..rest
+        },
+        Role::Receive => Operands {
+            extra: Extra::Receive(word),
+            ..rest
+        },
+        Role::Send => Operands {
+            extra: Extra::Send(word),
+            ..rest
+        },
+    }
+}
