@@ -47,10 +47,22 @@ impl Engine {
         ensures image { IfOk result (λ engine. engine.image ≡ image.now) }
         ensures opening { IfOk result (λ engine. config_of engine ≡ machine_open image.now bound) }
     {
+        match image.copy(alloc) {
+            Ok(image) => Engine::of(alloc, image, bound),
+            Err(NoMemory) => Err(NoMemory),
+        }
+    }
+
+    /// The same over an image that is taken.
+    pub fn of(alloc: Global, image: Image, bound: u32) -> Result<Engine, NoMemory>
+        requires formed { IsFormedImage image }
+        requires bound { bound ≤ 1048576 }
+        ensures image { IfOk result (λ engine. engine.image ≡ image) }
+        ensures opening { IfOk result (λ engine. config_of engine ≡ machine_open image bound) }
+    {
         let core = RunCore::open(alloc, &image.setting, image.contexts.len(), bound)?;
         let file = zeros(alloc, image.file)?;
         let contexts = starts(alloc, image.contexts.len())?;
-        let image = image.copy(alloc)?;
         Ok(Engine {
             image,
             core,

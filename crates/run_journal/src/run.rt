@@ -1,4 +1,4 @@
-ghost use Rattle.std.specs.Prelude.{◌≡◌, ◌≤◌, IfOk, [], List, length, ◌↔◌, true, IsTrue};
+ghost use Rattle.std.specs.Prelude.{◌≡◌, ◌≤◌, IfOk, IfErr, OnOk, Some, [], List, length, ◌↔◌, IsTrue};
 ghost use Rattle.micro_isa.specs.Formed.{IsFormedImage};
 ghost use Rattle.semantics.specs.Machine.{machine_semantics};
 ghost use Rattle.engine_core.specs.EngineState.{config_of};
@@ -7,10 +7,12 @@ ghost use Rattle.run_journal.specs.Keeping.{PortsKept};
 ghost use Rattle.run_journal.specs.Turning.{Fits};
 ghost use Rattle.run_journal.specs.Histories.{IsHistory, IsIdle, bound_of, channels_of, run_ending};
 ghost use Rattle.run_journal.specs.Attaching.{detached, IsFresh};
+ghost use Rattle.run_journal.specs.Replays.{Followed, StraysAfter};
 ghost use Rattle.run_journal.specs.Turns.{turn_answer, TurnDid, PumpDid, TurnLowers, PumpLowers};
 
 use crate::answers::{Pumped, TurnAnswer};
-use crate::{attaching, pumps, turns};
+use crate::replaying::ReplayFault;
+use crate::{attaching, following, pumps, turns};
 use engine_core::Engine;
 use micro_isa::{Image, NoMemory};
 use ports::{Port, Slots};
@@ -40,8 +42,8 @@ impl Model for Run {
 }
 
 impl Run {
-    /// The opening of a formed image, to be run for at most `bound` steps.
-    #[tactic(auto, using(crate::proofs::TurnKeeping::opening_known))]
+    /// The opening of a formed image, to be run for at most `bound` steps. The run keeps a copy of
+    /// the image.
     pub fn open(alloc: Global, image: &Image, bound: u32) -> Result<Run, NoMemory>
         requires formed { IsFormedImage image.now }
         requires bound { bound ≤ 1048576 }
@@ -50,7 +52,23 @@ impl Run {
         ensures entries { IfOk result (λ run. run.entries ≡ []) }
         ensures idle { IfOk result (λ run. run.idle ≡ 0) }
     {
-        let engine = Engine::open(alloc, image, bound)?;
+        match image.copy(alloc) {
+            Ok(image) => Run::of(alloc, image, bound),
+            Err(NoMemory) => Err(NoMemory),
+        }
+    }
+
+    /// The same over an image that is taken.
+    #[tactic(auto, using(crate::proofs::TurnKeeping::opening_known))]
+    pub fn of(alloc: Global, image: Image, bound: u32) -> Result<Run, NoMemory>
+        requires formed { IsFormedImage image }
+        requires bound { bound ≤ 1048576 }
+        ensures image { IfOk result (λ run. run.engine.image ≡ image) }
+        ensures bound { IfOk result (λ run. bound_of run.engine ≡ bound) }
+        ensures entries { IfOk result (λ run. run.entries ≡ []) }
+        ensures idle { IfOk result (λ run. run.idle ≡ 0) }
+    {
+        let engine = Engine::of(alloc, image, bound)?;
         match Vec::with_capacity(alloc, 2 * bound as usize + 16401) {
             Ok(entries) => Ok(Run {
                 engine,
@@ -138,5 +156,39 @@ impl Run {
         ensures kept { (start : List Told) → PortsKept (channels_of self.old.engine) self.old.entries self.old.engine.core self.old.idle start slots.old.told → PortsKept (channels_of self.new.engine) self.new.entries self.new.engine.core self.new.idle start slots.new.told }
     {
         pumps::pump_where(&mut self.engine, &mut self.entries, &mut self.idle, slots)
+    }
+
+    /// Follows a written entry: its event happens, and the entry that tells it is appended and
+    /// answered. None exactly where the event may not happen; then nothing changed.
+    pub fn follow(&mut self, written: Entry) -> Option<Entry>
+        ensures known { IsHistory self.old.engine self.old.entries }
+        ensures did { Followed result self.old self.new written }
+    {
+        match self.engine.illegal(following::event_of(written)) {
+            Some(_) => None,
+            None => {
+                self.idle = 0;
+                Some(following::happen(&mut self.engine, &mut self.entries, written))
+            }
+        }
+    }
+
+    /// Follows a written entry, which must tell just what happens.
+    pub(crate) fn follow_as(&mut self, written: Entry) -> Result<(), ReplayFault>
+        ensures known { IsHistory self.old.engine self.old.entries }
+        ensures did { OnOk result (Followed (Some written) self.old self.new written) }
+        ensures strays { IfErr result (λ why. StraysAfter why self.old written) }
+    {
+        let at = self.entries.len() as u32 + 1;
+        match self.follow(written) {
+            Some(found) => {
+                if found == written {
+                    Ok(())
+                } else {
+                    Err(ReplayFault::Differs { at, written, found })
+                }
+            }
+            None => Err(ReplayFault::Illegal { at, written }),
+        }
     }
 }
