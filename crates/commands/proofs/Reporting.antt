@@ -1,5 +1,5 @@
 -- The run of an image, and its report.
-use Rattle.std.proofs.Common.{◌≡◌, ℕ, List, Some, None}
+use Rattle.std.proofs.Common.{◌≡◌, ℕ, List, Option, Some, None}
 use Rattle.micro_isa.specs.declared.program.Bundle.{Bundle}
 use Rattle.micro_isa.specs.declared.image.Image.{Image}
 use Rattle.world.specs.declared.event.Entry.{Entry}
@@ -17,7 +17,7 @@ use Rattle.commands.specs.declared.status.Status.{Status}
 use Rattle.commands.specs.Reports.{IsReport, IsSourceReport, status_of}
 
 -- what a run from the opening leaves is what the report tells
-pub report_is : (steps : ℕ) (m : Image) (need : ℕ) (answer : Status) (text : List ℕ) (after : EngineState) (entries : List Entry) (end : End) → IsRoundRun (machine_semantics m) (machine_open m steps) (engine.config_of after) entries end → answer ≡ status_of end after.core.phases → text ≡ report_text (Some need) (Some m) m.setting.channels entries (record { view = shown_core after.core; file = Some after.file; ending = Some end }) → IsReport steps m need answer text
+pub report_is : (steps : ℕ) (m : Image) (need : Option ℕ) (answer : Status) (text : List ℕ) (after : EngineState) (entries : List Entry) (end : End) → IsRoundRun (machine_semantics m) (machine_open m steps) (engine.config_of after) entries end → answer ≡ status_of end after.core.phases → text ≡ report_text need (Some m) m.setting.channels entries (record { view = shown_core after.core; file = Some after.file; ending = Some end }) → IsReport steps m need answer text
 report_is steps m need answer text after entries end run answered told =
     record { entries = entries; last = engine.config_of after; end = end; run = run; answered = answered; reported = told }
 

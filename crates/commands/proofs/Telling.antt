@@ -1,8 +1,9 @@
 -- What tasks tell, from what their parts leave; and that what fits is served.
-use Rattle.std.proofs.Common.{◌≡◌, ℕ, ◌<◌, ◌≤◌, List, Bool, true, false, Some, None, sym, subst, arith, inl, inr}
+use Rattle.std.proofs.Common.{◌≡◌, ℕ, ◌<◌, ◌≤◌, List, Bool, true, false, Option, Some, None, sym, subst, arith, inl, inr}
 use Rattle.std.specs.Prelude.{◌||◌, if◌then◌else◌}
 use Rattle.std.specs.List.{list_any, list_all}
 use Rattle.micro_isa.specs.declared.program.Bundle.{Bundle}
+use Rattle.micro_isa.specs.declared.image.Image.{Image}
 use Rattle.world.specs.declared.event.Phase.{Phase}
 use Rattle.world.specs.declared.event.End.{End}
 use Rattle.world.specs.declared.event.End.TheVariants as ending
@@ -12,12 +13,14 @@ use Rattle.semantics.specs.Core.{Core, has_ended, some_runnable, ending_of}
 use Rattle.sliced_image.specs.Sliced.{sliced_need, sliced_image}
 use Rattle.commands.specs.declared.status.Status.{Status}
 use Rattle.commands.specs.declared.status.Status.TheVariants as status
-use Rattle.commands.specs.declared.task.Task.{Task}
-use Rattle.commands.specs.declared.task.Task.TheVariants as task
+use Rattle.commands.specs.declared.task.BundleTask.{BundleTask}
+use Rattle.commands.specs.declared.task.BundleTask.TheVariants as bundle
+use Rattle.commands.specs.declared.task.ImageTask.{ImageTask}
+use Rattle.commands.specs.declared.task.ImageTask.TheVariants as image
 use Rattle.commands.specs.Reports.{IsReport, has_trapped, status_of}
-use Rattle.commands.specs.Tells.{RunTells, Tells, Fits, IsServed, no_fit_line}
+use Rattle.commands.specs.Tells.{RunTells, TellsOfBundle, TellsOfImage, Fits, IsServed, no_fit_line}
 
-pub run_tells : (steps : ℕ) (answer : Status) (b : Bundle) (text : List ℕ) → sliced_need b ≤ b.file → Implements (sliced_image b) b → IsReport steps (sliced_image b) (sliced_need b) answer text → RunTells steps answer b text
+pub run_tells : (steps : ℕ) (answer : Status) (b : Bundle) (text : List ℕ) → sliced_need b ≤ b.file → Implements (sliced_image b) b → IsReport steps (sliced_image b) (Some (sliced_need b)) answer text → RunTells steps answer b text
 run_tells steps answer b text fits same report = inr (record { fits = fits; same = same; report = report })
 
 pub no_fit_tells : (steps : ℕ) (answer : Status) (b : Bundle) (text : List ℕ) → b.file < sliced_need b → answer ≡ status.NoFit → text ≡ no_fit_line (sliced_need b) b.file → RunTells steps answer b text
@@ -43,12 +46,20 @@ ended_served core ending.Stuck phases h = tt
 ended_served core ending.Bound phases h = tt
 ended_served core ending.Idle phases h = absurd (never_idle core h)
 
+-- a report is told with a status of what is served
+report_served : (steps : ℕ) (m : Image) (need : Option ℕ) (answer : Status) (text : List ℕ) → IsReport steps m need answer text → IsServed answer
+report_served steps m need answer text r = subst IsServed (sym r.answered) (ended_served r.last.core r.end r.last.core.phases r.run.ended)
+
 -- where nothing in the bundle is a cause, the task is served
-pub served : (t : Task) (answer : Status) (b : Bundle) (text : List ℕ) → Fits t b → Tells t answer b text → IsServed answer
-served (task.Run steps) answer b text fits (inl short) = let above = short.above in absurd (omega (arith, above, fits))
-served (task.Run steps) answer b text fits (inr runs) =
-    let r = runs.report in subst IsServed (sym r.answered) (ended_served r.last.core r.end r.last.core.phases r.run.ended)
-served (task.Source steps) answer b text fits r =
+pub served : (t : BundleTask) (answer : Status) (b : Bundle) (text : List ℕ) → Fits t b → TellsOfBundle t answer b text → IsServed answer
+served (bundle.Run steps) answer b text fits (inl short) = let above = short.above in absurd (omega (arith, above, fits))
+served (bundle.Run steps) answer b text fits (inr runs) =
+    report_served steps (sliced_image b) (Some (sliced_need b)) answer text runs.report
+served (bundle.Source steps) answer b text fits r =
     subst IsServed (sym r.answered) (ended_served r.last.core r.end r.last.core.phases r.run.ended)
-served task.Format answer b text fits tells = subst IsServed (sym tells.0) tt
-served task.Check answer b text fits tells = subst IsServed (sym tells.0) tt
+served bundle.Format answer b text fits tells = subst IsServed (sym tells.0) tt
+served bundle.Check answer b text fits tells = subst IsServed (sym tells.0) tt
+
+-- nothing in an image is a cause
+pub image_served : (t : ImageTask) (answer : Status) (m : Image) (text : List ℕ) → TellsOfImage t answer m text → IsServed answer
+image_served (image.Exec steps) answer m text r = report_served steps m None answer text r

@@ -1,5 +1,5 @@
 -- The reports of runs, and their statuses.
-use Rattle.std.specs.Prelude.{◌≡◌, ℕ, List, Bool, true, false, Some, None, if◌then◌else◌}
+use Rattle.std.specs.Prelude.{◌≡◌, ℕ, List, Bool, true, false, Option, Some, None, if◌then◌else◌}
 use Rattle.std.specs.List.{list_any}
 use Rattle.micro_isa.specs.declared.program.Bundle.{Bundle}
 use Rattle.micro_isa.specs.declared.image.Image.{Image}
@@ -29,14 +29,15 @@ status_of ending.Stuck phases = status.Stuck
 status_of ending.Bound phases = status.Bound
 status_of ending.Idle phases = status.Idle
 
--- the text is the report of a run of this image in round order, of at most so many steps, with no port at hand
-pub record IsReport (steps : ℕ) (m : Image) (need : ℕ) (answer : Status) (text : List ℕ) : Type 0 where
+-- the text is the report of a run of this image in round order, of at most so many steps, with no port at hand; the need
+-- is told where the image was made for a bundle
+pub record IsReport (steps : ℕ) (m : Image) (need : Option ℕ) (answer : Status) (text : List ℕ) : Type 0 where
   pub entries : List Entry
   pub last : Config Machine
   pub end : End
   pub run : IsRoundRun (machine_semantics m) (machine_open m steps) last entries end
   pub answered : answer ≡ status_of end last.core.phases
-  pub reported : text ≡ report_text (Some need) (Some m) m.setting.channels entries (record { view = shown_core last.core; file = Some last.state.file; ending = Some end })
+  pub reported : text ≡ report_text need (Some m) m.setting.channels entries (record { view = shown_core last.core; file = Some last.state.file; ending = Some end })
 
 -- the same of a run of this bundle over registers of its own, which has no need, image and file to tell
 pub record IsSourceReport (steps : ℕ) (b : Bundle) (answer : Status) (text : List ℕ) : Type 0 where

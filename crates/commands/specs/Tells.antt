@@ -1,6 +1,8 @@
--- What each task tells of a bundle, and with which status.
-use Rattle.std.specs.Prelude.{◌≡◌, ℕ, ◌<◌, ◌≤◌, ◌⊎◌, List, [], ◌∷◌, ◌++◌, decimal, codes}
+-- What each task tells of its input, and with which status.
+use Rattle.std.specs.Prelude.{◌≡◌, ℕ, ◌<◌, ◌≤◌, ◌⊎◌, List, [], ◌∷◌, ◌++◌, Some, None, decimal, codes}
 use Rattle.micro_isa.specs.declared.program.Bundle.{Bundle}
+use Rattle.micro_isa.specs.declared.image.Image.{Image}
+use Rattle.micro_isa.specs.declared.limits.TheConstants.{MOST_STEPS}
 use Rattle.semantics.specs.Agreement.{Implements}
 use Rattle.sliced_image.specs.Sliced.{sliced_need, sliced_image}
 use Rattle.asm_print.specs.Canonical.{canonical_text}
@@ -9,6 +11,10 @@ use Rattle.commands.specs.declared.status.Status.{Status}
 use Rattle.commands.specs.declared.status.Status.TheVariants as status
 use Rattle.commands.specs.declared.task.Task.{Task}
 use Rattle.commands.specs.declared.task.Task.TheVariants as task
+use Rattle.commands.specs.declared.task.BundleTask.{BundleTask}
+use Rattle.commands.specs.declared.task.BundleTask.TheVariants as bundle
+use Rattle.commands.specs.declared.task.ImageTask.{ImageTask}
+use Rattle.commands.specs.declared.task.ImageTask.TheVariants as image
 use Rattle.commands.specs.Reports.{IsReport, IsSourceReport}
 
 -- `nofit need N file F`
@@ -26,27 +32,41 @@ pub record DoesNotFit (answer : Status) (b : Bundle) (text : List ℕ) : Type 0 
 pub record Runs (steps : ℕ) (answer : Status) (b : Bundle) (text : List ℕ) : Type 0 where
   pub fits : sliced_need b ≤ b.file
   pub same : Implements (sliced_image b) b
-  pub report : IsReport steps (sliced_image b) (sliced_need b) answer text
+  pub report : IsReport steps (sliced_image b) (Some (sliced_need b)) answer text
 
 abbrev pub RunTells : ℕ → Status → Bundle → List ℕ → Type 0
 RunTells steps answer b text = DoesNotFit answer b text ⊎ Runs steps answer b text
 
 -- what a task tells of a bundle
-abbrev pub Tells : Task → Status → Bundle → List ℕ → Type 0
-Tells (task.Run steps) answer b text = RunTells steps answer b text
-Tells (task.Source steps) answer b text = IsSourceReport steps b answer text
-Tells task.Format answer b text = (answer ≡ status.Done) × (text ≡ canonical_text b)
-Tells task.Check answer b text = (answer ≡ status.Done) × IsCheckOf b text
+abbrev pub TellsOfBundle : BundleTask → Status → Bundle → List ℕ → Type 0
+TellsOfBundle (bundle.Run steps) answer b text = RunTells steps answer b text
+TellsOfBundle (bundle.Source steps) answer b text = IsSourceReport steps b answer text
+TellsOfBundle bundle.Format answer b text = (answer ≡ status.Done) × (text ≡ canonical_text b)
+TellsOfBundle bundle.Check answer b text = (answer ≡ status.Done) × IsCheckOf b text
+
+-- what a task tells of an image; its run tells no need, since an image does not say what it was made for
+abbrev pub TellsOfImage : ImageTask → Status → Image → List ℕ → Type 0
+TellsOfImage (image.Exec steps) answer m text = IsReport steps m None answer text
 
 -- a run has this many steps at most
-abbrev pub IsBounded : Task → Type 0
-IsBounded (task.Run steps) = steps ≤ 1048576
-IsBounded (task.Source steps) = steps ≤ 1048576
-IsBounded _ = Unit {0}
+abbrev pub steps_of_bundle : BundleTask → ℕ
+steps_of_bundle (bundle.Run steps) = steps
+steps_of_bundle (bundle.Source steps) = steps
+steps_of_bundle _ = 0
 
--- nothing in the bundle is a cause for which the task is refused
-abbrev pub Fits : Task → Bundle → Type 0
-Fits (task.Run steps) b = sliced_need b ≤ b.file
+abbrev pub steps_of_image : ImageTask → ℕ
+steps_of_image (image.Exec steps) = steps
+
+abbrev pub steps_of : Task → ℕ
+steps_of (task.OfBundle t) = steps_of_bundle t
+steps_of (task.OfImage t) = steps_of_image t
+
+abbrev pub IsBounded : Task → Type 0
+IsBounded t = steps_of t ≤ MOST_STEPS
+
+-- nothing in the bundle is a cause for which the task is refused; nothing in an image ever is
+abbrev pub Fits : BundleTask → Bundle → Type 0
+Fits (bundle.Run steps) b = sliced_need b ≤ b.file
 Fits _ b = Unit {0}
 
 -- the statuses of what is not refused

@@ -1,32 +1,38 @@
-ghost use Rattle.std.specs.Prelude.{◌≡◌, IfOk};
+//! What each task does with a bundle.
+
+ghost use Rattle.std.specs.Prelude.{◌≡◌, ◌≤◌, IfOk};
 ghost use Rattle.micro_isa.specs.Formed.{IsFormedBundle};
 ghost use Rattle.asm_print.specs.Canonical.{canonical_text};
 ghost use Rattle.report_check.specs.Checks.{IsCheckOf};
-ghost use Rattle.commands.specs.Tells.{IsBounded, Tells, Fits, IsServed};
+ghost use Rattle.commands.specs.Tells.{steps_of_bundle, TellsOfBundle, Fits, IsServed};
 ghost use Rattle.commands.specs.declared.status.Status.TheVariants as status;
 
-use crate::images::run_bundle;
+use crate::bundle_runs::run_bundle;
 use crate::sources::run_sources;
 use crate::status::Status;
-use crate::task::{Reply, Task};
+use crate::task::{BundleTask, Reply};
 use asm_print::print_bundle;
-use micro_isa::{Bundle, NoMemory};
+use micro_isa::{Bundle, MOST_STEPS, NoMemory};
 use report_check::print_check;
 use std::alloc::Global;
 
 /// Does a task with a formed bundle.
 #[tactic(auto, using(crate::proofs::Telling::served))]
-pub fn perform(alloc: Global, task: Task, bundle: &Bundle) -> Result<Reply, NoMemory>
+pub fn perform_on_bundle(
+    alloc: Global,
+    task: BundleTask,
+    bundle: &Bundle,
+) -> Result<Reply, NoMemory>
     requires formed { IsFormedBundle bundle.now }
-    requires bounded { IsBounded task }
-    ensures tells { IfOk result (λ r. Tells task r.status bundle.now r.text.items) }
+    requires bounded { steps_of_bundle task ≤ MOST_STEPS }
+    ensures tells { IfOk result (λ r. TellsOfBundle task r.status bundle.now r.text.items) }
     ensures served { IfOk result (λ r. Fits task bundle.now → IsServed r.status) }
 {
     match task {
-        Task::Run { steps } => run_bundle(alloc, bundle, steps),
-        Task::Source { steps } => run_sources(alloc, bundle, steps),
-        Task::Format => format_bundle(alloc, bundle),
-        Task::Check => check_bundle(alloc, bundle),
+        BundleTask::Run { steps } => run_bundle(alloc, bundle, steps),
+        BundleTask::Source { steps } => run_sources(alloc, bundle, steps),
+        BundleTask::Format => format_bundle(alloc, bundle),
+        BundleTask::Check => check_bundle(alloc, bundle),
     }
 }
 

@@ -1,13 +1,16 @@
-//! What the commands do with a bundle: its run, its source's run, its canonical text, what it needs.
+//! What the commands do with their input, once it is read: with a bundle or with an image.
 #![tactic(auto)]
 
+mod bundle_runs;
 mod bundles;
+mod image_runs;
 mod images;
 mod reports;
 mod sources;
 mod status;
 mod task;
 
-pub use bundles::perform;
+pub use bundles::perform_on_bundle;
+pub use images::perform_on_image;
 pub use status::Status;
-pub use task::{Reply, Task};
+pub use task::{BundleTask, ImageTask, Reply, Task};

@@ -8,7 +8,7 @@ ghost use Rattle.commands.specs.Reports.{IsSourceReport, status_of};
 
 use crate::reports::status_of;
 use crate::task::Reply;
-use micro_isa::{Bundle, NoMemory};
+use micro_isa::{Bundle, MOST_STEPS, NoMemory};
 use report_run::{Outcome, print_report};
 use round_order::{SourceRounds, run_source};
 use source_core::SourceRun;
@@ -19,7 +19,7 @@ use world::End;
 #[tactic(auto, using(crate::proofs::Reporting::source_report_is))]
 pub(crate) fn run_sources(alloc: Global, bundle: &Bundle, steps: u32) -> Result<Reply, NoMemory>
     requires formed { IsFormedBundle bundle.now }
-    requires bound { steps ≤ 1048576 }
+    requires bound { steps ≤ MOST_STEPS }
     ensures { IfOk result (λ r. IsSourceReport steps bundle.now r.status r.text.items) }
 {
     let run = run_source(alloc, bundle, steps)?;

@@ -1,8 +1,17 @@
 use crate::status::Status;
 
-/// What is to be done with a bundle.
+/// What is to be done with an input: each kind of task reads its own kind of input.
 #[derive(Clone, Copy, Debug, PartialEq, Eq)]
 pub enum Task {
+    /// The input is the text of a bundle.
+    OfBundle(BundleTask),
+    /// The input is the bytes of an image.
+    OfImage(ImageTask),
+}
+
+/// What is to be done with a bundle.
+#[derive(Clone, Copy, Debug, PartialEq, Eq)]
+pub enum BundleTask {
     /// Its image runs in round order, for at most this many steps.
     Run { steps: u32 },
     /// Its programs run over registers of their own, in round order, for at most this many steps.
@@ -11,6 +20,13 @@ pub enum Task {
     Format,
     /// What its contexts need is told.
     Check,
+}
+
+/// What is to be done with an image.
+#[derive(Clone, Copy, Debug, PartialEq, Eq)]
+pub enum ImageTask {
+    /// It runs in round order, for at most this many steps.
+    Exec { steps: u32 },
 }
 
 /// What is to be written, and the status once it is.

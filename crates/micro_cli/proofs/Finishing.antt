@@ -2,17 +2,17 @@
 use Rattle.std.proofs.Common.{◌≡◌, ℕ, ◌+◌, ◌<◌, ◌≤◌, List, ◌++◌, length, take, Option, Some, None, refl, sym, ap, ◌∙◌, subst, arith, append-nil, length-append, inl, inr}
 use Rattle.std.specs.Prelude.{◌⊎◌}
 use Rattle.std.proofs.lemmas.Option.{same_Some}
-use Rattle.micro_isa.specs.declared.program.Bundle.{Bundle}
 use Rattle.micro_kit.specs.Streams.{Rose, Gives, Grew, IsSpent}
-use Rattle.asm_text.specs.Texts.{Spells}
 use Rattle.commands.specs.declared.status.Status.{Status}
 use Rattle.commands.specs.declared.status.Status.TheVariants as status
 use Rattle.commands.specs.declared.task.Task.{Task}
+use Rattle.commands.specs.declared.task.Task.TheVariants.{OfBundle, OfImage}
 use Rattle.commands.specs.Tells.{Fits, IsServed}
 use Rattle.micro_cli.specs.declared.command.Silence.TheVariants as silence
 use Rattle.micro_cli.specs.Answers.{Says, TellsInput, TellsTooLong, TellsUsage, TellsTask, Asks}
+use Rattle.micro_cli.specs.Lines.{limit_of}
 use Rattle.micro_cli.specs.Silences.{IsSilent}
-use Rattle.micro_cli.specs.Calls.{Outside, Finishes, HasNoCause, IsServedOrFree}
+use Rattle.micro_cli.specs.Calls.{Outside, Finishes, Serves, HasNoCause, IsServedOrFree}
 
 -- a text that was asked for and written to its end
 pub written_whole : (answer : Status) (words : List (List ℕ)) (o : Outside) (text : List ℕ) → Asks answer words o.left o.left' text → Grew o.wrote text o.wrote' → Finishes answer words o
@@ -43,15 +43,17 @@ longer input taken (Some rest) gives =
     let e : length input ≡ length taken + length rest = ap length (same_Some _ _ gives) ∙ length-append taken rest in
     omega (arith, e)
 
--- what is told of an input that spells a bundle which the task takes
-said : (task : Task) (answer : Status) (input text : List ℕ) (b : Bundle) → Spells input b → Fits task b → Says task answer input text → IsServed answer
-said task answer input text b spelt fits (inl bad) =
-    let none = spelt.free in
+-- what is told of an input that the task serves
+said : (task : Task) (answer : Status) (input text : List ℕ) → Serves task input → Says task answer input text → IsServed answer
+said (OfBundle task) answer input text serves (inl bad) =
+    let none = serves.spelt.free in
     let some = bad.found in
     absurd (cc)
-said task answer input text b spelt fits (inr tells) =
-    let same : tells.bundle ≡ b = tells.spelt.said ∙ sym spelt.said in
-    tells.served (subst (Fits task) (sym same) fits)
+said (OfBundle task) answer input text serves (inr tells) =
+    let same : tells.bundle ≡ serves.bundle = tells.spelt.said ∙ sym serves.spelt.said in
+    tells.served (subst (Fits task) (sym same) serves.fits)
+said (OfImage task) answer input text serves (inl bad) = absurd (bad.unspelled serves.0 serves.1)
+said (OfImage task) answer input text serves (inr tells) = tells.served
 
 -- what is told of the task that the words ask for
 task_is_served : (answer : Status) (words : List (List ℕ)) (o : Outside) (text : List ℕ) (h : HasNoCause words o) → TellsTask answer words o.left o.left' text → IsServed answer
@@ -60,15 +62,15 @@ task_is_served answer words o text h asks = by asks.tells
     same : asks.task ≡ h.task
     same = same_Some _ _ (sym asks.asked ∙ h.asks)
 
-    by : TellsTooLong answer o.left o.left' text ⊎ TellsInput asks.task answer o.left o.left' text → IsServed answer
+    by : TellsTooLong asks.task answer o.left o.left' text ⊎ TellsInput asks.task answer o.left o.left' text → IsServed answer
     by (inl long) =
         let more = longer h.input long.taken o.left' (subst (λ l. Gives l long.taken o.left') h.told long.given) in
-        let count : length long.taken ≡ 1048576 + 1 = long.above in
-        let within : length h.input ≤ 1048576 = h.within in
+        let count : length long.taken ≡ limit_of h.task + 1 = subst (λ t. length long.taken ≡ limit_of t + 1) same long.above in
+        let within : length h.input ≤ limit_of h.task = h.within in
         absurd (omega (arith, more, count, within))
     by (inr tells) =
         let is : tells.input ≡ h.input = whole_is h.input tells.input o.left' (subst (λ l. Gives l tells.input o.left') h.told (tells.whole).0) (tells.whole).1 in
-        said h.task answer h.input text h.bundle h.spelt h.fits (subst (λ t. Says t answer h.input text) same (subst (λ x. Says asks.task answer x text) is tells.says))
+        said h.task answer h.input text h.serves (subst (λ t. Says t answer h.input text) same (subst (λ x. Says asks.task answer x text) is tells.says))
 
 -- where nothing outside gives a cause, the task is served
 pub completes : (answer : Status) (words : List (List ℕ)) (o : Outside) → Finishes answer words o → HasNoCause words o → IsServedOrFree answer

@@ -1,34 +1,51 @@
 -- From what is said of an input to what a call asks to be written.
 use Rattle.std.proofs.Common.{◌≡◌, ℕ, ◌+◌, List, length, Option, None, Some, refl, inl, inr}
 use Rattle.micro_isa.specs.declared.program.Bundle.{Bundle}
+use Rattle.micro_isa.specs.declared.image.Image.{Image}
 use Rattle.micro_kit.specs.Streams.{Gives, IsWhole}
 use Rattle.asm_lines.specs.Faults.{At}
 use Rattle.asm_text.specs.Texts.{text_fault, Spells}
 use Rattle.commands.specs.declared.status.Status.{Status}
 use Rattle.commands.specs.declared.status.Status.TheVariants as status
 use Rattle.commands.specs.declared.task.Task.{Task}
-use Rattle.commands.specs.Tells.{Tells, Fits, IsServed}
+use Rattle.commands.specs.declared.task.Task.TheVariants.{OfBundle, OfImage}
+use Rattle.commands.specs.declared.task.BundleTask.{BundleTask}
+use Rattle.commands.specs.declared.task.ImageTask.{ImageTask}
+use Rattle.commands.specs.Tells.{TellsOfBundle, TellsOfImage, Fits, IsServed}
+use Rattle.image_load.specs.declared.fault.ImageKind.{ImageKind}
+use Rattle.image_load.specs.declared.fault.ImageFault.TheVariants as bytes_fault
+use Rattle.image_load.specs.Faults.{Causes}
+use Rattle.image_load.specs.Spelling.{Spells as SpellsImage}
+use Rattle.image_load.specs.Loading.{image_fault}
 use Rattle.micro_cli.specs.declared.command.Silence.{Silence}
 use Rattle.micro_cli.specs.declared.command.Silence.TheVariants as silence
-use Rattle.micro_cli.specs.Lines.{usage_line, input_limit, too_long_line, bad_bundle_line}
+use Rattle.micro_cli.specs.Lines.{usage_line, limit_of, too_long_line, bad_bundle_line, bad_image_line}
 use Rattle.micro_cli.specs.Words.{task_asked}
 use Rattle.micro_cli.specs.Answers.{Says, AsksOfInput, Asks}
 use Rattle.micro_cli.specs.Silences.{FailsToRead, IsSilent}
 
 -- what a task tells of the bundle that the input spells
-pub says_of_bundle : (task : Task) (answer : Status) (input text : List ℕ) (b : Bundle) → Spells input b → Tells task answer b text → (Fits task b → IsServed answer) → Says task answer input text
+pub says_of_bundle : (task : BundleTask) (answer : Status) (input text : List ℕ) (b : Bundle) → Spells input b → TellsOfBundle task answer b text → (Fits task b → IsServed answer) → Says (OfBundle task) answer input text
 says_of_bundle task answer input text b spelt tells served = inr (record { bundle = b; spelt = spelt; tells = tells; served = served })
 
--- the first fault of the input
-pub says_of_fault : (task : Task) (answer : Status) (input text : List ℕ) (at : At) → text_fault input ≡ Some at → answer ≡ status.BadBundle → text ≡ bad_bundle_line at → Says task answer input text
-says_of_fault task answer input text at found answered told = inl (record { answered = answered; at = at; found = found; told = told })
+-- the first fault of a text
+pub says_of_text_fault : (task : BundleTask) (answer : Status) (input text : List ℕ) (at : At) → text_fault input ≡ Some at → answer ≡ status.BadBundle → text ≡ bad_bundle_line at → Says (OfBundle task) answer input text
+says_of_text_fault task answer input text at found answered told = inl (record { answered = answered; at = at; found = found; told = told })
+
+-- what a task tells of the image that the input spells
+pub says_of_image : (task : ImageTask) (answer : Status) (input text : List ℕ) (m : Image) → SpellsImage input m → TellsOfImage task answer m text → IsServed answer → Says (OfImage task) answer input text
+says_of_image task answer input text m spelt tells served = inr (record { image = m; spelt = spelt; tells = tells; served = served })
+
+-- the first fault of bytes
+pub says_of_bytes_fault : (task : ImageTask) (answer : Status) (input text : List ℕ) (offset : ℕ) (kind : ImageKind) → Causes (bytes_fault.At offset kind) (image_fault input) → ((m : Image) → SpellsImage input m → ⊥) → answer ≡ status.BadImage → text ≡ bad_image_line offset kind → Says (OfImage task) answer input text
+says_of_bytes_fault task answer input text offset kind found unspelled answered told = inl (record { answered = answered; offset = offset; kind = kind; found = found; told = told; unspelled = unspelled })
 
 -- what is said of an input that was read to its end is asked for
-pub asks_of_text : (task : Task) (answer : Status) (left left' : Option (List ℕ)) (input text : List ℕ) → IsWhole left input left' input_limit → Says task answer input text → AsksOfInput task answer left left' text
-asks_of_text task answer left left' input text whole says = inr (record { input = input; whole = whole; says = says })
+pub asks_of_input : (task : Task) (answer : Status) (left left' : Option (List ℕ)) (input text : List ℕ) → IsWhole left input left' (limit_of task) → Says task answer input text → AsksOfInput task answer left left' text
+asks_of_input task answer left left' input text whole says = inr (record { input = input; whole = whole; says = says })
 
 -- an input of more bytes than the limit
-pub asks_of_length : (task : Task) (answer : Status) (left left' : Option (List ℕ)) (text taken : List ℕ) → Gives left taken left' → length taken ≡ input_limit + 1 → answer ≡ status.TooLong → text ≡ too_long_line → AsksOfInput task answer left left' text
+pub asks_of_length : (task : Task) (answer : Status) (left left' : Option (List ℕ)) (text taken : List ℕ) → Gives left taken left' → length taken ≡ limit_of task + 1 → answer ≡ status.TooLong → text ≡ too_long_line (limit_of task) → AsksOfInput task answer left left' text
 asks_of_length task answer left left' text taken given above answered told =
     inl (record { answered = answered; taken = taken; given = given; above = above; told = told })
 
@@ -41,6 +58,6 @@ asks_of_usage answer words left text none answered told =
 pub asks_of_task : (answer : Status) (words : List (List ℕ)) (left left' : Option (List ℕ)) (text : List ℕ) (task : Task) → task_asked words ≡ Some task → AsksOfInput task answer left left' text → Asks answer words left left' text
 asks_of_task answer words left left' text task asked tells = inr (record { task = task; asked = asked; tells = tells })
 
-pub silent_of_words : (why : Silence) (words : List (List ℕ)) (left left' : Option (List ℕ)) (faults faults' : ℕ) (task : Task) → task_asked words ≡ Some task → FailsToRead why left left' faults faults' → IsSilent why words left left' faults faults'
+pub silent_of_words : (why : Silence) (words : List (List ℕ)) (left left' : Option (List ℕ)) (faults faults' : ℕ) (task : Task) → task_asked words ≡ Some task → FailsToRead task why left left' faults faults' → IsSilent why words left left' faults faults'
 silent_of_words silence.ReadFault words left left' faults faults' task asked fails = (task, asked, fails)
 silent_of_words silence.NoMemory words left left' faults faults' task asked fails = tt

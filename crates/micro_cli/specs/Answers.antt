@@ -1,50 +1,76 @@
 -- What a call of the program asks to be written.
 use Rattle.std.specs.Prelude.{◌≡◌, ℕ, ◌+◌, ◌⊎◌, List, length, Option, Some, None}
 use Rattle.micro_isa.specs.declared.program.Bundle.{Bundle}
+use Rattle.micro_isa.specs.declared.image.Image.{Image}
 use Rattle.micro_kit.specs.Streams.{Gives, IsWhole}
 use Rattle.asm_lines.specs.Faults.{At}
 use Rattle.asm_text.specs.Texts.{text_fault, Spells}
+use Rattle.image_load.specs.declared.fault.ImageKind.{ImageKind}
+use Rattle.image_load.specs.declared.fault.ImageFault.TheVariants as bytes_fault
+use Rattle.image_load.specs.Faults.{Causes}
+use Rattle.image_load.specs.Spelling.{Spells as SpellsImage}
+use Rattle.image_load.specs.Loading.{image_fault}
 use Rattle.commands.specs.declared.status.Status.{Status}
 use Rattle.commands.specs.declared.status.Status.TheVariants as status
 use Rattle.commands.specs.declared.task.Task.{Task}
-use Rattle.commands.specs.Tells.{Tells, Fits, IsServed}
-use Rattle.micro_cli.specs.Lines.{usage_line, input_limit, too_long_line, bad_bundle_line}
+use Rattle.commands.specs.declared.task.Task.TheVariants.{OfBundle, OfImage}
+use Rattle.commands.specs.declared.task.BundleTask.{BundleTask}
+use Rattle.commands.specs.declared.task.ImageTask.{ImageTask}
+use Rattle.commands.specs.Tells.{TellsOfBundle, TellsOfImage, Fits, IsServed}
+use Rattle.micro_cli.specs.Lines.{usage_line, limit_of, too_long_line, bad_bundle_line, bad_image_line}
 use Rattle.micro_cli.specs.Words.{task_asked}
 
--- the input has a first fault, and the line tells it
-pub record TellsFault (answer : Status) (input text : List ℕ) : Type 0 where
+-- the text has a first fault, and the line tells it
+pub record TellsTextFault (answer : Status) (input text : List ℕ) : Type 0 where
   pub answered : answer ≡ status.BadBundle
   pub at : At
   pub found : text_fault input ≡ Some at
   pub told : text ≡ bad_bundle_line at
 
 -- the input spells a bundle, and the text is what the task tells of it; one that fits is served
-pub record TellsBundle (task : Task) (answer : Status) (input text : List ℕ) : Type 0 where
+pub record TellsBundle (task : BundleTask) (answer : Status) (input text : List ℕ) : Type 0 where
   pub bundle : Bundle
   pub spelt : Spells input bundle
-  pub tells : Tells task answer bundle text
+  pub tells : TellsOfBundle task answer bundle text
   pub served : Fits task bundle → IsServed answer
+
+-- the bytes have a first fault, and the line tells it: they spell no image
+pub record TellsBytesFault (answer : Status) (input text : List ℕ) : Type 0 where
+  pub answered : answer ≡ status.BadImage
+  pub offset : ℕ
+  pub kind : ImageKind
+  pub found : Causes (bytes_fault.At offset kind) (image_fault input)
+  pub told : text ≡ bad_image_line offset kind
+  pub unspelled : (m : Image) → SpellsImage input m → ⊥
+
+-- the input spells an image, and the text is what the task tells of it
+pub record TellsImage (task : ImageTask) (answer : Status) (input text : List ℕ) : Type 0 where
+  pub image : Image
+  pub spelt : SpellsImage input image
+  pub tells : TellsOfImage task answer image text
+  pub served : IsServed answer
 
 -- what a task asks to be written for an input
 abbrev pub Says : Task → Status → List ℕ → List ℕ → Type 0
-Says task answer input text = TellsFault answer input text ⊎ TellsBundle task answer input text
+Says (OfBundle task) answer input text = TellsTextFault answer input text ⊎ TellsBundle task answer input text
+Says (OfImage task) answer input text = TellsBytesFault answer input text ⊎ TellsImage task answer input text
 
 -- the input was read to its end, and this is asked to be written for it
 pub record TellsInput (task : Task) (answer : Status) (left left' : Option (List ℕ)) (text : List ℕ) : Type 0 where
   pub input : List ℕ
-  pub whole : IsWhole left input left' input_limit
+  pub whole : IsWhole left input left' (limit_of task)
   pub says : Says task answer input text
 
 -- more bytes than the limit were taken: exactly one more
-pub record TellsTooLong (answer : Status) (left left' : Option (List ℕ)) (text : List ℕ) : Type 0 where
+pub record TellsTooLong (task : Task) (answer : Status) (left left' : Option (List ℕ)) (text : List ℕ) : Type 0 where
   pub answered : answer ≡ status.TooLong
   pub taken : List ℕ
   pub given : Gives left taken left'
-  pub above : length taken ≡ input_limit + 1
-  pub told : text ≡ too_long_line
+  pub above : length taken ≡ limit_of task + 1
+  pub told : text ≡ too_long_line (limit_of task)
 
 abbrev pub AsksOfInput : Task → Status → Option (List ℕ) → Option (List ℕ) → List ℕ → Type 0
-AsksOfInput task answer left left' text = TellsTooLong answer left left' text ⊎ TellsInput task answer left left' text
+AsksOfInput task answer left left' text = TellsTooLong task answer left left' text ⊎ TellsInput task answer left left' text
 
 -- the words mean nothing, and nothing was read
 pub record TellsUsage (answer : Status) (words : List (List ℕ)) (left left' : Option (List ℕ)) (text : List ℕ) : Type 0 where

@@ -1,13 +1,17 @@
 -- What a call leaves outside, by its status.
 use Rattle.std.specs.Prelude.{◌≡◌, ℕ, ◌<◌, ◌≤◌, ◌⊎◌, List, length, take, Option, Some}
 use Rattle.micro_isa.specs.declared.program.Bundle.{Bundle}
+use Rattle.micro_isa.specs.declared.image.Image.{Image}
 use Rattle.micro_kit.specs.Streams.{Rose, Grew, GivesAtMost}
 use Rattle.asm_text.specs.Texts.{Spells}
+use Rattle.image_load.specs.Spelling.{Spells as SpellsImage}
 use Rattle.commands.specs.declared.status.Status.{Status}
 use Rattle.commands.specs.declared.status.Status.TheVariants as status
 use Rattle.commands.specs.declared.task.Task.{Task}
+use Rattle.commands.specs.declared.task.Task.TheVariants.{OfBundle, OfImage}
+use Rattle.commands.specs.declared.task.BundleTask.{BundleTask}
 use Rattle.commands.specs.Tells.{Fits, IsServed}
-use Rattle.micro_cli.specs.Lines.{input_limit}
+use Rattle.micro_cli.specs.Lines.{limit_of}
 use Rattle.micro_cli.specs.Words.{task_asked}
 use Rattle.micro_cli.specs.Answers.{Asks}
 
@@ -60,7 +64,7 @@ pub record CouldNotRead (answer : Status) (words : List (List ℕ)) (o : Outside
   pub task : Task
   pub asked : task_asked words ≡ Some task
   pub rose : Rose o.read_faults o.read_faults'
-  pub taken : GivesAtMost o.left input_limit o.left'
+  pub taken : GivesAtMost o.left (limit_of task) o.left'
   pub silent : o.wrote' ≡ o.wrote
 
 -- memory was wanting, which is always free; nothing was written
@@ -73,8 +77,19 @@ abbrev pub Finishes : Status → List (List ℕ) → Outside → Type 0
 Finishes answer words o =
     WroteAll answer words o ⊎ (WasCutShort answer words o ⊎ (CouldNotRead answer words o ⊎ WantedMemory answer o))
 
+-- the input spells a bundle that the task takes
+pub record SpellsFitting (task : BundleTask) (input : List ℕ) : Type 0 where
+  pub bundle : Bundle
+  pub spelt : Spells input bundle
+  pub fits : Fits task bundle
+
+-- the input spells what the task reads, and nothing in it is a cause for which the task is refused
+abbrev pub Serves : Task → List ℕ → Type 0
+Serves (OfBundle task) input = SpellsFitting task input
+Serves (OfImage task) input = (m : Image) × SpellsImage input m
+
 -- nothing outside gives a cause for a refusal: the words ask for a task, no read or write fails, and the input is within
--- the limit and spells a bundle that the task takes
+-- the task's limit and one that it serves
 pub record HasNoCause (words : List (List ℕ)) (o : Outside) : Type 0 where
   pub task : Task
   pub asks : task_asked words ≡ Some task
@@ -82,10 +97,8 @@ pub record HasNoCause (words : List (List ℕ)) (o : Outside) : Type 0 where
   pub writes : Rose o.write_faults o.write_faults' → ⊥
   pub input : List ℕ
   pub told : o.left ≡ Some input
-  pub within : length input ≤ input_limit
-  pub bundle : Bundle
-  pub spelt : Spells input bundle
-  pub fits : Fits task bundle
+  pub within : length input ≤ limit_of task
+  pub serves : Serves task input
 
 -- the task was served and its whole text written; or memory was wanting
 abbrev pub IsServedOrFree : Status → Type 0

@@ -1,6 +1,11 @@
 -- The lines of refusals.
 use Rattle.std.specs.Prelude.{ℕ, List, [], ◌∷◌, ◌++◌, decimal, codes}
+use Rattle.micro_isa.specs.declared.limits.TheConstants.{LONGEST_BUNDLE, LONGEST_IMAGE}
 use Rattle.asm_lines.specs.Faults.{At, kind_text}
+use Rattle.image_load.specs.declared.fault.ImageKind.{ImageKind}
+use Rattle.image_load.specs.Faults.{kind_text as image_kind_text}
+use Rattle.commands.specs.declared.task.Task.{Task}
+use Rattle.commands.specs.declared.task.Task.TheVariants.{OfBundle, OfImage}
 
 abbrev pub newline : List ℕ
 newline = 10 ∷ []
@@ -9,14 +14,19 @@ newline = 10 ∷ []
 abbrev pub usage_line : List ℕ
 usage_line = codes "usage: micro COMMAND [NUMBER] [--steps N] [--order round|threads]" ++ newline
 
--- an input has this many bytes at most
-abbrev pub input_limit : ℕ
-input_limit = 1048576
+-- the input of a task has this many bytes at most
+abbrev pub limit_of : Task → ℕ
+limit_of (OfBundle t) = LONGEST_BUNDLE
+limit_of (OfImage t) = LONGEST_IMAGE
 
 -- `toolong LIMIT`
-abbrev pub too_long_line : List ℕ
-too_long_line = codes "toolong 1048576" ++ newline
+abbrev pub too_long_line : ℕ → List ℕ
+too_long_line limit = codes "toolong " ++ decimal limit ++ newline
 
 -- `bundle LINE KIND`
 abbrev pub bad_bundle_line : At → List ℕ
 bad_bundle_line at = codes "bundle " ++ decimal at.line ++ codes " " ++ kind_text at.kind ++ newline
+
+-- `image OFFSET KIND`
+abbrev pub bad_image_line : ℕ → ImageKind → List ℕ
+bad_image_line offset kind = codes "image " ++ decimal offset ++ codes " " ++ image_kind_text kind ++ newline

@@ -4,16 +4,16 @@ use Rattle.micro_kit.specs.Streams.{Rose, GivesAtMost}
 use Rattle.commands.specs.declared.task.Task.{Task}
 use Rattle.micro_cli.specs.declared.command.Silence.{Silence}
 use Rattle.micro_cli.specs.declared.command.Silence.TheVariants as silence
-use Rattle.micro_cli.specs.Lines.{input_limit}
+use Rattle.micro_cli.specs.Lines.{limit_of}
 use Rattle.micro_cli.specs.Words.{task_asked}
 
--- a read failed; or memory was wanting
-abbrev pub FailsToRead : Silence → Option (List ℕ) → Option (List ℕ) → ℕ → ℕ → Type 0
-FailsToRead silence.ReadFault left left' faults faults' = Rose faults faults' × GivesAtMost left input_limit left'
-FailsToRead silence.NoMemory left left' faults faults' = Unit {0}
+-- a read failed, before more bytes than the task's limit were taken; or memory was wanting
+abbrev pub FailsToRead : Task → Silence → Option (List ℕ) → Option (List ℕ) → ℕ → ℕ → Type 0
+FailsToRead task silence.ReadFault left left' faults faults' = Rose faults faults' × GivesAtMost left (limit_of task) left'
+FailsToRead task silence.NoMemory left left' faults faults' = Unit {0}
 
 -- the same, the words asking for a task
 abbrev pub IsSilent : Silence → List (List ℕ) → Option (List ℕ) → Option (List ℕ) → ℕ → ℕ → Type 0
 IsSilent silence.ReadFault words left left' faults faults' =
-    (task : Task) × (task_asked words ≡ Some task) × FailsToRead silence.ReadFault left left' faults faults'
+    (task : Task) × (task_asked words ≡ Some task) × FailsToRead task silence.ReadFault left left' faults faults'
 IsSilent silence.NoMemory words left left' faults faults' = Unit {0}

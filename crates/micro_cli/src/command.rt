@@ -1,24 +1,20 @@
 //! What a call asks to be written: from the words and the input to a status and a text.
 
-ghost use Rattle.std.specs.Prelude.{◌≡◌, ◌≤◌, IfOk, IfErr, Some, length, map, string_bytes};
-ghost use Rattle.asm_lines.specs.Faults.{At};
+ghost use Rattle.std.specs.Prelude.{◌≡◌, ◌≤◌, IfOk, IfErr, length, map, string_bytes};
 ghost use Rattle.commands.specs.Tells.{IsBounded};
 ghost use Rattle.commands.specs.declared.status.Status.TheVariants as status;
 ghost use Rattle.micro_cli.specs.Answers.{Asks, AsksOfInput, Says};
 ghost use Rattle.micro_cli.specs.Silences.{FailsToRead, IsSilent};
-ghost use Rattle.micro_cli.specs.Lines.{usage_line, too_long_line, bad_bundle_line};
+ghost use Rattle.micro_cli.specs.Lines.{usage_line, limit_of, too_long_line};
 
-use crate::lines::{bad_bundle_line, too_long_line, usage_line};
+use crate::bundle_replies::reply_to_text;
+use crate::image_replies::reply_to_image;
+use crate::lines::{limit_of, too_long_line, usage_line};
 use crate::words::task_asked;
-use asm_lines::{BundleFault, BundleKind};
-use asm_text::read_bundle;
-use commands::{Reply, Status, Task, perform};
-use micro_isa::NoMemory;
+use commands::{Reply, Status, Task};
+use micro_isa::{LONGEST_IMAGE, NoMemory};
 use micro_kit::{ReadFault, Source, read_all};
 use std::alloc::Global;
-
-/// An input has this many bytes at most.
-const INPUT_LIMIT: usize = 1_048_576;
 
 /// Why nothing is to be written.
 #[derive(Clone, Copy, Debug, PartialEq, Eq)]
@@ -63,19 +59,20 @@ fn usage(alloc: Global) -> Result<Reply, NoMemory>
 }
 
 /// Reads the input to its end and replies to it.
-#[tactic(auto, using(crate::proofs::Replies::asks_of_text, crate::proofs::Replies::asks_of_length))]
+#[tactic(auto, using(crate::proofs::Replies::asks_of_input, crate::proofs::Replies::asks_of_length))]
 fn reply_to_input<I: Source>(alloc: Global, task: Task, input: &mut I) -> Result<Reply, Silence>
     requires { IsBounded task }
     ensures asks { IfOk result (λ r. AsksOfInput task r.status (I.left input.old) (I.left input.new) r.text.items) }
-    ensures silent { IfErr result (λ why. FailsToRead why (I.left input.old) (I.left input.new) (I.faults input.old) (I.faults input.new)) }
+    ensures silent { IfErr result (λ why. FailsToRead task why (I.left input.old) (I.left input.new) (I.faults input.old) (I.faults input.new)) }
 {
-    match read_all(alloc, input, INPUT_LIMIT) {
-        Ok(text) => match reply_to_text(alloc, task, &text) {
+    let limit = limit_of(task);
+    match read_all(alloc, input, limit) {
+        Ok(bytes) => match reply_to_bytes(alloc, task, bytes) {
             Ok(reply) => Ok(reply),
             Err(NoMemory) => Err(Silence::NoMemory),
         },
         Err(ReadFault::Failed) => Err(Silence::ReadFault),
-        Err(ReadFault::TooLong) => match too_long(alloc) {
+        Err(ReadFault::TooLong) => match too_long(alloc, limit) {
             Ok(reply) => Ok(reply),
             Err(NoMemory) => Err(Silence::NoMemory),
         },
@@ -83,10 +80,11 @@ fn reply_to_input<I: Source>(alloc: Global, task: Task, input: &mut I) -> Result
     }
 }
 
-fn too_long(alloc: Global) -> Result<Reply, NoMemory>
-    ensures { IfOk result (λ r. (r.status ≡ status.TooLong) × (r.text.items ≡ too_long_line)) }
+fn too_long(alloc: Global, limit: usize) -> Result<Reply, NoMemory>
+    requires { limit ≤ LONGEST_IMAGE }
+    ensures { IfOk result (λ r. (r.status ≡ status.TooLong) × (r.text.items ≡ too_long_line limit)) }
 {
-    match too_long_line(alloc) {
+    match too_long_line(alloc, limit) {
         Ok(text) => Ok(Reply {
             status: Status::TooLong,
             text,
@@ -95,34 +93,14 @@ fn too_long(alloc: Global) -> Result<Reply, NoMemory>
     }
 }
 
-/// The reply to a whole input.
-#[tactic(auto, using(crate::proofs::Replies::says_of_bundle, crate::proofs::Replies::says_of_fault))]
-fn reply_to_text(alloc: Global, task: Task, text: &[u8]) -> Result<Reply, NoMemory>
-    requires short { length text.now ≤ 2097152 }
+/// The reply to a whole input, which is read as what the task takes.
+fn reply_to_bytes(alloc: Global, task: Task, bytes: Vec<u8>) -> Result<Reply, NoMemory>
+    requires short { length bytes.items ≤ limit_of task }
     requires bounded { IsBounded task }
-    ensures { IfOk result (λ r. Says task r.status text.now r.text.items) }
+    ensures { IfOk result (λ r. Says task r.status bytes.items r.text.items) }
 {
-    match read_bundle(alloc, text) {
-        Ok(bundle) => match perform(alloc, task, &bundle) {
-            Ok(reply) => Ok(reply),
-            Err(NoMemory) => Err(NoMemory),
-        },
-        Err(BundleFault::At { line, kind }) => match bad_bundle(alloc, line, kind) {
-            Ok(reply) => Ok(reply),
-            Err(NoMemory) => Err(NoMemory),
-        },
-        Err(BundleFault::NoMemory) => Err(NoMemory),
-    }
-}
-
-fn bad_bundle(alloc: Global, line: u32, kind: BundleKind) -> Result<Reply, NoMemory>
-    ensures { IfOk result (λ r. (r.status ≡ status.BadBundle) × (r.text.items ≡ bad_bundle_line (record { line = line; kind = kind }))) }
-{
-    match bad_bundle_line(alloc, line, kind) {
-        Ok(text) => Ok(Reply {
-            status: Status::BadBundle,
-            text,
-        }),
-        Err(NoMemory) => Err(NoMemory),
+    match task {
+        Task::OfBundle(task) => reply_to_text(alloc, task, &bytes),
+        Task::OfImage(task) => reply_to_image(alloc, task, bytes),
     }
 }

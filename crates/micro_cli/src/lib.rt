@@ -1,8 +1,10 @@
 //! The commands: from the words and the input to the output and the status.
 #![tactic(auto)]
 
+mod bundle_replies;
 mod call;
 mod command;
+mod image_replies;
 mod lines;
 #[cfg(test)]
 mod tests;

@@ -1,10 +1,12 @@
 //! The lines of refusals.
 
-ghost use Rattle.std.specs.Prelude.{◌≡◌, ◌++◌, IfOk, OnOk};
-ghost use Rattle.micro_cli.specs.Lines.{usage_line, too_long_line, bad_bundle_line};
+ghost use Rattle.std.specs.Prelude.{◌≡◌, ◌≤◌, ◌++◌, IfOk, OnOk};
+ghost use Rattle.micro_cli.specs.Lines.{usage_line, limit_of, too_long_line, bad_bundle_line, bad_image_line};
 
 use asm_lines::{BundleKind, kind_text};
-use micro_isa::NoMemory;
+use commands::Task;
+use image_load::ImageKind;
+use micro_isa::{LONGEST_BUNDLE, LONGEST_IMAGE, NoMemory};
 use micro_kit::put_number;
 use std::alloc::Global;
 
@@ -17,10 +19,25 @@ pub(crate) fn usage_line(alloc: Global) -> Result<Vec<u8>, NoMemory>
     )
 }
 
-pub(crate) fn too_long_line(alloc: Global) -> Result<Vec<u8>, NoMemory>
-    ensures { IfOk result (λ line. line.items ≡ too_long_line) }
+/// The input of a task has this many bytes at most.
+pub(crate) fn limit_of(task: Task) -> usize
+    ensures limit { result ≡ limit_of task }
+    ensures small { result ≤ LONGEST_IMAGE }
 {
-    text_of(alloc, b"toolong 1048576\n")
+    match task {
+        Task::OfBundle(_) => LONGEST_BUNDLE,
+        Task::OfImage(_) => LONGEST_IMAGE,
+    }
+}
+
+pub(crate) fn too_long_line(alloc: Global, limit: usize) -> Result<Vec<u8>, NoMemory>
+    requires { limit ≤ LONGEST_IMAGE }
+    ensures { IfOk result (λ line. line.items ≡ too_long_line limit) }
+{
+    let mut text = text_of(alloc, b"toolong ")?;
+    put_number(&mut text, limit as u32)?;
+    put_text(&mut text, b"\n")?;
+    Ok(text)
 }
 
 pub(crate) fn bad_bundle_line(
@@ -34,6 +51,21 @@ pub(crate) fn bad_bundle_line(
     put_number(&mut text, line)?;
     put_text(&mut text, b" ")?;
     put_text(&mut text, kind_text(kind))?;
+    put_text(&mut text, b"\n")?;
+    Ok(text)
+}
+
+pub(crate) fn bad_image_line(
+    alloc: Global,
+    offset: u32,
+    kind: ImageKind,
+) -> Result<Vec<u8>, NoMemory>
+    ensures { IfOk result (λ text. text.items ≡ bad_image_line offset kind) }
+{
+    let mut text = text_of(alloc, b"image ")?;
+    put_number(&mut text, offset)?;
+    put_text(&mut text, b" ")?;
+    put_text(&mut text, image_load::kind_text(kind))?;
     put_text(&mut text, b"\n")?;
     Ok(text)
 }

@@ -30,6 +30,14 @@ const PORTED_REPORT: &[u8] =
 const PORTED_RUN: &[u8] =
     b"need 1\nbudget private 0 shared 1\nglue 0\nunplug 0\nrun 0 1 recv\noutput 1\ncontext 0 receive 0\nfile 0 0\nsteps 1\nend stuck\n";
 
+/// The image that `EXAMPLE` would be built to.
+const IMAGE: &[u8] =
+    b"UREG\x01\0\x01\0\x02\0\x01\0\0\0\0\0\0\0\x02\0\x02\xff\0\0\0\0\0\0\0\0\0\0\x05\0\0\0\x81\0\0\0\x02\0\0\0\x04\0\0\0\x81\x01\0\0\x03\0\0\0\x05\0\0\0\x83\0\0\x01\0\0\0\0\x06\0\0\0\x99\0\0\0\0\0\0\0\x07\0\0\0\x9a\0\0\0\0\0\0\0\x08\0\0\0";
+
+/// Its run, whose report has no need to tell.
+const EXECUTED: &[u8] =
+    b"budget private 0 shared 2\nglue 0\nrun 0 4 send\nrun 0 1 halt\noutput 0 5\ncontext 0 halted\nfile 5 3\nsteps 5\nend finished\n";
+
 /// No step is left at the first instruction.
 const CUT_AT_ONCE: &[u8] =
     b"need 2\nbudget private 0 shared 2\nglue 0\nrun 0 0 bound\noutput 0\ncontext 0 ready\nfile 0 0\nsteps 0\nend bound\n";
@@ -116,6 +124,10 @@ fn serves_and_refuses(rt: HostRuntime) -> Result<(), Fail> {
             Status::BadBundle,
         ),
         call_of(&["source"], EXAMPLE, SOURCE, Status::Done),
+        call_of(&["exec"], IMAGE, EXECUTED, Status::Done),
+        call_of(&["exec"], b"", b"image 0 short\n", Status::BadImage),
+        call_of(&["exec"], EXAMPLE, b"image 0 magic\n", Status::BadImage),
+        call_of(&["run"], IMAGE, b"bundle 1 byte\n", Status::BadBundle),
         call_of(&["run"], PORTED, PORTED_RUN, Status::Stuck),
         call_of(
             &["run", "--steps", "0"],

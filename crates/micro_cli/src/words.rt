@@ -5,7 +5,7 @@ ghost use Rattle.commands.specs.Tells.{IsBounded};
 ghost use Rattle.micro_cli.specs.Words.{task_of, task_asked};
 
 use command_words::{Meaning, Turns, Verb, read_words};
-use commands::Task;
+use commands::{BundleTask, ImageTask, Task};
 use micro_isa::NoMemory;
 use std::alloc::Global;
 
@@ -28,10 +28,11 @@ fn task_of(meaning: &Meaning) -> Option<Task>
 {
     let steps = meaning.steps;
     match (meaning.verb, meaning.turns) {
-        (Verb::Run, Turns::Round) => Some(Task::Run { steps }),
-        (Verb::Source, Turns::Round) => Some(Task::Source { steps }),
-        (Verb::Fmt, Turns::Round) => Some(Task::Format),
-        (Verb::Check, Turns::Round) => Some(Task::Check),
+        (Verb::Run, Turns::Round) => Some(Task::OfBundle(BundleTask::Run { steps })),
+        (Verb::Source, Turns::Round) => Some(Task::OfBundle(BundleTask::Source { steps })),
+        (Verb::Fmt, Turns::Round) => Some(Task::OfBundle(BundleTask::Format)),
+        (Verb::Check, Turns::Round) => Some(Task::OfBundle(BundleTask::Check)),
+        (Verb::Exec, Turns::Round) => Some(Task::OfImage(ImageTask::Exec { steps })),
         _ => None,
     }
 }
