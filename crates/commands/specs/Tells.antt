@@ -5,6 +5,7 @@ use Rattle.micro_isa.specs.declared.image.Image.{Image}
 use Rattle.micro_isa.specs.declared.limits.TheConstants.{MOST_STEPS}
 use Rattle.semantics.specs.Agreement.{Implements}
 use Rattle.sliced_image.specs.Sliced.{sliced_need, sliced_image}
+use Rattle.image_load.specs.Spelling.{Spells}
 use Rattle.asm_print.specs.Canonical.{canonical_text}
 use Rattle.report_check.specs.Checks.{IsCheckOf}
 use Rattle.commands.specs.declared.status.Status.{Status}
@@ -27,20 +28,33 @@ pub record DoesNotFit (answer : Status) (b : Bundle) (text : List ℕ) : Type 0 
   pub above : b.file < sliced_need b
   pub told : text ≡ no_fit_line (sliced_need b) b.file
 
--- the registers fit, the text is the report of the run of the bundle's image, and the image does what the bundle does, for
--- every bound and every list of events
-pub record Runs (steps : ℕ) (answer : Status) (b : Bundle) (text : List ℕ) : Type 0 where
+-- the registers fit, the bundle's image does what the bundle does, for every bound and every list of events, and this is
+-- told of that image
+pub record OfItsImage (tells : Image → Type 0) (b : Bundle) : Type 0 where
   pub fits : sliced_need b ≤ b.file
   pub same : Implements (sliced_image b) b
-  pub report : IsReport steps (sliced_image b) (Some (sliced_need b)) answer text
+  pub told : tells (sliced_image b)
+
+-- the need is above the file, or this is told of the bundle's image
+abbrev pub WhereItFits : (Image → Type 0) → Status → Bundle → List ℕ → Type 0
+WhereItFits tells answer b text = DoesNotFit answer b text ⊎ OfItsImage tells b
+
+-- the text is the bytes of the image
+pub record IsWritten (answer : Status) (text : List ℕ) (m : Image) : Type 0 where
+  pub answered : answer ≡ status.Done
+  pub spelt : Spells text m
 
 abbrev pub RunTells : ℕ → Status → Bundle → List ℕ → Type 0
-RunTells steps answer b text = DoesNotFit answer b text ⊎ Runs steps answer b text
+RunTells steps answer b text = WhereItFits (λ m. IsReport steps m (Some (sliced_need b)) answer text) answer b text
+
+abbrev pub BuildTells : Status → Bundle → List ℕ → Type 0
+BuildTells answer b text = WhereItFits (IsWritten answer text) answer b text
 
 -- what a task tells of a bundle
 abbrev pub TellsOfBundle : BundleTask → Status → Bundle → List ℕ → Type 0
 TellsOfBundle (bundle.Run steps) answer b text = RunTells steps answer b text
 TellsOfBundle (bundle.Source steps) answer b text = IsSourceReport steps b answer text
+TellsOfBundle bundle.Build answer b text = BuildTells answer b text
 TellsOfBundle bundle.Format answer b text = (answer ≡ status.Done) × (text ≡ canonical_text b)
 TellsOfBundle bundle.Check answer b text = (answer ≡ status.Done) × IsCheckOf b text
 
@@ -67,6 +81,7 @@ IsBounded t = steps_of t ≤ MOST_STEPS
 -- nothing in the bundle is a cause for which the task is refused; nothing in an image ever is
 abbrev pub Fits : BundleTask → Bundle → Type 0
 Fits (bundle.Run steps) b = sliced_need b ≤ b.file
+Fits bundle.Build b = sliced_need b ≤ b.file
 Fits _ b = Unit {0}
 
 -- the statuses of what is not refused

@@ -7,7 +7,7 @@ ghost use Rattle.report_check.specs.Checks.{IsCheckOf};
 ghost use Rattle.commands.specs.Tells.{steps_of_bundle, TellsOfBundle, Fits, IsServed};
 ghost use Rattle.commands.specs.declared.status.Status.TheVariants as status;
 
-use crate::bundle_runs::run_bundle;
+use crate::bundle_images::{build_bundle, run_bundle};
 use crate::sources::run_sources;
 use crate::status::Status;
 use crate::task::{BundleTask, Reply};
@@ -31,6 +31,7 @@ pub fn perform_on_bundle(
     match task {
         BundleTask::Run { steps } => run_bundle(alloc, bundle, steps),
         BundleTask::Source { steps } => run_sources(alloc, bundle, steps),
+        BundleTask::Build => build_bundle(alloc, bundle),
         BundleTask::Format => format_bundle(alloc, bundle),
         BundleTask::Check => check_bundle(alloc, bundle),
     }

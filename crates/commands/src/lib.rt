@@ -1,10 +1,11 @@
 //! What the commands do with their input, once it is read: with a bundle or with an image.
 #![tactic(auto)]
 
-mod bundle_runs;
+mod bundle_images;
 mod bundles;
 mod image_runs;
 mod images;
+mod made;
 mod reports;
 mod sources;
 mod status;

@@ -16,6 +16,8 @@ pub enum BundleTask {
     Run { steps: u32 },
     /// Its programs run over registers of their own, in round order, for at most this many steps.
     Source { steps: u32 },
+    /// The bytes of its image are told.
+    Build,
     /// Its canonical text is told.
     Format,
     /// What its contexts need is told.

@@ -11,10 +11,11 @@ use Rattle.commands.specs.declared.task.Task.TheVariants.{OfBundle, OfImage}
 use Rattle.commands.specs.declared.task.BundleTask.TheVariants as bundle
 use Rattle.commands.specs.declared.task.ImageTask.TheVariants as image
 
--- the task of a command; allocated images, threads, journals and generated bundles are still to come
+-- the task of a command; threads, journals and generated bundles are still to come
 abbrev pub task_for : Verb → Turns → ℕ → Option Task
 task_for verb.Run turns.Round steps = Some (OfBundle (bundle.Run steps))
 task_for verb.Source turns.Round steps = Some (OfBundle (bundle.Source steps))
+task_for verb.Build turns.Round steps = Some (OfBundle bundle.Build)
 task_for verb.Fmt turns.Round steps = Some (OfBundle bundle.Format)
 task_for verb.Check turns.Round steps = Some (OfBundle bundle.Check)
 task_for verb.Exec turns.Round steps = Some (OfImage (image.Exec steps))

@@ -124,6 +124,8 @@ fn serves_and_refuses(rt: HostRuntime) -> Result<(), Fail> {
             Status::BadBundle,
         ),
         call_of(&["source"], EXAMPLE, SOURCE, Status::Done),
+        call_of(&["build"], EXAMPLE, IMAGE, Status::Done),
+        call_of(&["build"], NO_FIT, b"nofit need 2 file 1\n", Status::NoFit),
         call_of(&["exec"], IMAGE, EXECUTED, Status::Done),
         call_of(&["exec"], b"", b"image 0 short\n", Status::BadImage),
         call_of(&["exec"], EXAMPLE, b"image 0 magic\n", Status::BadImage),

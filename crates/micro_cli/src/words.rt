@@ -30,6 +30,7 @@ fn task_of(meaning: &Meaning) -> Option<Task>
     match (meaning.verb, meaning.turns) {
         (Verb::Run, Turns::Round) => Some(Task::OfBundle(BundleTask::Run { steps })),
         (Verb::Source, Turns::Round) => Some(Task::OfBundle(BundleTask::Source { steps })),
+        (Verb::Build, Turns::Round) => Some(Task::OfBundle(BundleTask::Build)),
         (Verb::Fmt, Turns::Round) => Some(Task::OfBundle(BundleTask::Format)),
         (Verb::Check, Turns::Round) => Some(Task::OfBundle(BundleTask::Check)),
         (Verb::Exec, Turns::Round) => Some(Task::OfImage(ImageTask::Exec { steps })),
