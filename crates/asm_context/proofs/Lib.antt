@@ -1,4 +1,5 @@
 pub mod Forming
+pub mod Free
 pub mod Instructing
 pub mod Labelling
 pub mod Naming

@@ -1,5 +1,5 @@
 -- A line without a fault meets none of its tests.
-use Rattle.std.proofs.Common.{◌≡◌, ℕ, Bool, true, false, List, [], ◌∷◌, Option, Some, None, refl, if◌then◌else◌}
+use Rattle.std.proofs.Common.{◌≡◌, ℕ, Bool, true, false, List, [], ◌∷◌, Option, Some, None, refl, ap, ◌∙◌, if◌then◌else◌}
 use Rattle.asm_lines.specs.declared.fault.BundleKind.{BundleKind}
 use Rattle.asm_lines.specs.Faults.{At, first_kind, at_or, or_else}
 
@@ -15,6 +15,10 @@ none_of false k later e = (refl, e)
 pub none_met : (rows : List (Bool × BundleKind)) → first_kind rows ≡ None → NoneMet rows
 none_met [] e = tt
 none_met (row ∷ rows) e = let both = none_of row.0 row.1 (first_kind rows) e in (both.0, none_met rows both.1)
+
+pub no_kind : (rows : List (Bool × BundleKind)) → NoneMet rows → first_kind rows ≡ None
+no_kind [] h = refl
+no_kind (row ∷ rows) h = ap (λ (b : Bool). if b then Some row.1 else first_kind rows) h.0 ∙ no_kind rows h.1
 
 -- lines of which none has a fault
 

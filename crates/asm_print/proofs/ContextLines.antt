@@ -21,7 +21,7 @@ use Rattle.asm_context.specs.Spelt as operand
 use Rattle.asm_lines.specs.Cutting.{Words, TextLine}
 use Rattle.asm_lines.specs.Numbers.{is_no_number}
 use Rattle.asm_lines.specs.Tables.{knows, declare, misnamed, one}
-use Rattle.asm_context.specs.Faults.{channels, is_stray, gives_none, takes_none, body_tests, body_fault}
+use Rattle.asm_context.specs.Faults.{channels, is_stray, gives_none, takes_none, body_fault}
 use Rattle.asm_context.specs.Forms.{Form, Body, label_in, labelled, body_of, does, ends, registers_in, goes_to, receives_from, sends_to, number_in}
 use Rattle.asm_context.specs.Forms as form
 use Rattle.asm_context.specs.Programs.{instr_in, on_line}
@@ -29,7 +29,7 @@ use Rattle.asm_context.specs.Said.{Said, with_body, count, targets_after}
 use Rattle.asm_print.specs.Canonical.{name_at, target_name, instruction_row}
 use Rattle.asm_print.proofs.Plain.{row_words}
 use Rattle.asm_print.specs.Typed.{OfAny}
-use Rattle.asm_print.proofs.FreeTests.{no_kind}
+use Rattle.asm_context.proofs.Free.{no_fault}
 use Rattle.asm_print.proofs.InTurn.{InTurn, grown, declare_all}
 use Rattle.asm_print.proofs.InstructionAgain.{form_for, body_for, body_again, numbers_of, shape, received, sent, number, well_named, reached, Channelled, met, giver, taker, Spelt, instr_again}
 use Rattle.asm_print.proofs.Tables.{fresh, declare_new}
@@ -82,41 +82,21 @@ label_walk chs kinds p n k at before l later placed named distinct parts here =
     let new : knows (map (λ (l : Label). l.name) before) l.name ≡ false =
     fresh (map (λ (l : Label). l.name) before) l.name (map (λ (l : Label). l.name) later)
     (ap (formed.is_distinct bytes_eq) (sym (map-append (λ (l : Label). l.name) before (l ∷ later)) ∙ ap (map (λ (l : Label). l.name)) parts) ∙ distinct) in
-    let free : body_fault (channels chs kinds) (list_any (knows s.labels) (one b.label)) (with_body s b) (final p) true b ≡ None =
-    no_kind (body_tests (channels chs kinds) (list_any (knows s.labels) (one b.label)) (with_body s b) (final p) true b) (
-      refl,
-      (
-        refl,
-        (
-          refl,
-          (
-            ap (λ (x : Bool). (not x || false) || (false || (false || (false || false)))) named,
-            (
-              refl,
-              (
-                few_now p k (at + 0) placed.few placed.registers (omega (arith, placed.within, placed.short)),
-                (
-                  ap (λ (x : Bool). x || false) new,
-                  (
-                    refl,
-                    (
-                      refl,
-                      (
-                        refl,
-                        (
-                          ap (λ (x : Bool). x && true) (ne_eqb (at + 0) (length p.code) (λ (e : at + 0 ≡ length p.code). omega (arith, placed.within))),
-                          tt,
-                        ),
-                      ),
-                    ),
-                  ),
-                ),
-              ),
-            ),
-          ),
-        ),
-      ),
-    ) in
+    let twice = list_any (knows s.labels) (one b.label) in
+    let free : body_fault (channels chs kinds) twice (with_body s b) (final p) true b ≡ None =
+    no_fault (channels chs kinds) twice (with_body s b) (final p) true b (record {
+      byte = refl;
+      directive = refl;
+      operands = refl;
+      name = ap (λ (x : Bool). (not x || false) || (false || (false || (false || false)))) named;
+      number = refl;
+      limit = few_now p k (at + 0) placed.few placed.registers (omega (arith, placed.within, placed.short));
+      label_twice = ap (λ (x : Bool). x || false) new;
+      channel_unknown = refl;
+      channel_kind = refl;
+      label_unknown = refl;
+      falls_off = ap (λ (x : Bool). x && true) (ne_eqb (at + 0) (length p.code) (λ (e : at + 0 ≡ length p.code). omega (arith, placed.within)));
+    }) in
     one_walk (channels chs kinds) (final p) s (stands p (before ++ l ∷ []) k at) (line n ((l.name ++ codes ":") ∷ [])) []
     (ap (λ (b : Body). body_fault (channels chs kinds) (list_any (knows s.labels) (one b.label)) (with_body s b) (final p) true b) (label_body l.name) ∙ free)
     (ap (with_body s) (label_body l.name)
@@ -209,48 +189,31 @@ module _ (chs : Words) (kinds : List Channel) (p : Program) where
       (or_from (misnamed (one (receives_from f))) (misnamed (one (sends_to f))) (ap (λ o. misnamed (one o)) sh.receives ∙ channel_named (received i) spelt.channels (givers (received i) r))
       (ap (λ o. misnamed (one o)) sh.sends ∙ channel_named (sent i) spelt.channels (takers (sent i) t)))) in
       let free : body_fault (channels chs kinds) false (with_body s b) (final p) true b ≡ None =
-      no_kind (body_tests (channels chs kinds) false (with_body s b) (final p) true b) (
-        refl,
-        (
-          sh.unknown,
-          (
-            sh.miscounted,
-            (
-              names,
-              (
-                ap (λ o. list_any is_no_number (one o)) sh.number ∙ number_said (number i) spelt.number,
-                (
-                  ap (λ (rs : Words). nat_lt MOST_REGISTERS (length rs) || nat_lt MOST_INSTRUCTIONS (at + count (does f))) grows
-                      ∙ ap (λ d. nat_lt MOST_REGISTERS (length (take (grown k (numbers_of i)) p.registers)) || nat_lt MOST_INSTRUCTIONS (at + count d)) sh.does
-                      ∙ few_now p (grown k (numbers_of i)) (at + 1) spelt.few placed.registers (omega (arith, placed.within, placed.short)),
-                  (
-                    refl,
-                    (
-                      or_from (is_stray (channels chs kinds) (receives_from f)) (is_stray (channels chs kinds) (sends_to f))
-                          (ap (is_stray (channels chs kinds)) sh.receives ∙ channel_known (received i) spelt.channels (givers (received i) r))
-                          (ap (is_stray (channels chs kinds)) sh.sends ∙ channel_known (sent i) spelt.channels (takers (sent i) t)),
-                      (
-                        or_from (gives_none (channels chs kinds) (receives_from f)) (takes_none (channels chs kinds) (sends_to f))
-                            (ap (gives_none (channels chs kinds)) sh.receives ∙ gives_some (received i) spelt.channels r)
-                            (ap (takes_none (channels chs kinds)) sh.sends ∙ takes_some (sent i) spelt.channels t),
-                        (
-                          ap (λ o. list_any (λ label. not (knows (final p).labels label)) (one o)) sh.goes ∙ target_known (formed.target_of i) spelt.labels spelt.label_names spelt.labelled,
-                          (
-                            ap (λ d. nat_eq (at + count d) (length p.code) && (if d then not (form.ends f) else false)) sh.does
-                                ∙ ap (λ e. nat_eq (at + 1) (length p.code) && not e) sh.ends
-                                ∙ never_loose at (length p.code) (formed.never_falls i) ends,
-                            tt,
-                          ),
-                        ),
-                      ),
-                    ),
-                  ),
-                ),
-              ),
-            ),
-          ),
-        ),
-      ) in
+      no_fault (channels chs kinds) false (with_body s b) (final p) true b (record {
+        byte = refl;
+        directive = sh.unknown;
+        operands = sh.miscounted;
+        name = names;
+        number = ap (λ o. list_any is_no_number (one o)) sh.number ∙ number_said (number i) spelt.number;
+        limit =
+            ap (λ (rs : Words). nat_lt MOST_REGISTERS (length rs) || nat_lt MOST_INSTRUCTIONS (at + count (does f))) grows
+            ∙ ap (λ d. nat_lt MOST_REGISTERS (length (take (grown k (numbers_of i)) p.registers)) || nat_lt MOST_INSTRUCTIONS (at + count d)) sh.does
+            ∙ few_now p (grown k (numbers_of i)) (at + 1) spelt.few placed.registers (omega (arith, placed.within, placed.short));
+        label_twice = refl;
+        channel_unknown =
+            or_from (is_stray (channels chs kinds) (receives_from f)) (is_stray (channels chs kinds) (sends_to f))
+            (ap (is_stray (channels chs kinds)) sh.receives ∙ channel_known (received i) spelt.channels (givers (received i) r))
+            (ap (is_stray (channels chs kinds)) sh.sends ∙ channel_known (sent i) spelt.channels (takers (sent i) t));
+        channel_kind =
+            or_from (gives_none (channels chs kinds) (receives_from f)) (takes_none (channels chs kinds) (sends_to f))
+            (ap (gives_none (channels chs kinds)) sh.receives ∙ gives_some (received i) spelt.channels r)
+            (ap (takes_none (channels chs kinds)) sh.sends ∙ takes_some (sent i) spelt.channels t);
+        label_unknown = ap (λ o. list_any (λ label. not (knows (final p).labels label)) (one o)) sh.goes ∙ target_known (formed.target_of i) spelt.labels spelt.label_names spelt.labelled;
+        falls_off =
+            ap (λ d. nat_eq (at + count d) (length p.code) && (if d then not (form.ends f) else false)) sh.does
+            ∙ ap (λ e. nat_eq (at + 1) (length p.code) && not e) sh.ends
+            ∙ never_loose at (length p.code) (formed.never_falls i) ends;
+      }) in
       one_walk (channels chs kinds) (final p) s (stands p before (grown k (numbers_of i)) (at + 1)) (line n (row_words (instruction_row chs p i))) (i ∷ [])
       (ap (λ (b : Body). body_fault (channels chs kinds) (list_any (knows s.labels) (one b.label)) (with_body s b) (final p) true b) (body_again chs p i) ∙ free)
       (ap (with_body s) (body_again chs p i)

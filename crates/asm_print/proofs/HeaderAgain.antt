@@ -26,7 +26,7 @@ use Rattle.asm_header.specs.Faults.{is_from, is_bad_port, is_input, form_tests, 
 use Rattle.asm_print.specs.Canonical.{words_rows, input_row, channel_rows, channels_rows, header_rows}
 use Rattle.asm_print.proofs.Plain.{row_words, lines_with}
 use Rattle.asm_print.specs.Typed.{WordsFit, IsTyped}
-use Rattle.asm_print.proofs.FreeTests.{no_kind}
+use Rattle.asm_lines.proofs.First.{no_kind}
 use Rattle.asm_print.proofs.Lines.{lines-append}
 use Rattle.asm_print.proofs.Tables.{fresh, fresh_number, declare_new, distinct_front, place_is, known_at}
 use Rattle.asm_print.proofs.Words.{number_is, number_there}

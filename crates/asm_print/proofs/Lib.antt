@@ -1,7 +1,6 @@
 mod Bytes
 mod ContextAgain
 mod ContextLines
-mod FreeTests
 mod HeaderAgain
 mod InTurn
 mod InstructionAgain

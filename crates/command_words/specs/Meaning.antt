@@ -1,12 +1,14 @@
 -- What the words of a command line mean.
 use Rattle.std.specs.Prelude.{ℕ, Bool, true, false, List, map, Option, Some, None, if◌then◌else◌, codes, nat_le, option_map, option_and_then}
 use Rattle.std.specs.Str.{bytes_eq}
+use Rattle.micro_isa.specs.declared.limits.TheConstants.{MOST_STEPS}
 use Rattle.micro_kit.specs.Numbers.{number_of}
 use Rattle.command_words.specs.declared.meaning.Meaning.{Meaning}
 use Rattle.command_words.specs.declared.meaning.Verb.{Verb}
 use Rattle.command_words.specs.declared.meaning.Verb.TheVariants as verb
 use Rattle.command_words.specs.declared.meaning.Turns.{Turns}
 use Rattle.command_words.specs.declared.meaning.Turns.TheVariants as turns
+use Rattle.command_words.specs.declared.reading.TheConstants.{DEFAULT_STEPS}
 use Rattle.command_words.specs.Texts.{Text, Parts, word_of, texts_of, parts_of}
 
 -- a command is written in small letters
@@ -37,11 +39,11 @@ is_bounded verb.Replay = true
 is_bounded _ = false
 
 abbrev pub bound_of : ℕ → Option ℕ
-bound_of n = if nat_le n 1048576 then Some n else None
+bound_of n = if nat_le n MOST_STEPS then Some n else None
 
--- 0 to 1048576 where the command has a bound, and 100000 where none is given
+-- within the limit of steps where the command has a bound, and so many where none is given
 abbrev pub steps_for : Verb → Option Text → Option ℕ
-steps_for v None = Some 100000
+steps_for v None = Some DEFAULT_STEPS
 steps_for v (Some n) = if is_bounded v then option_and_then bound_of (number_of n) else None
 
 -- the commands that run an image have an order of turns

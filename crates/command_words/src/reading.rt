@@ -4,12 +4,9 @@ ghost use Rattle.command_words.specs.Meaning.{verb_of, number_for, is_bounded, s
 
 use crate::meaning::{Meaning, Turns, Verb};
 use crate::split::{Given, split_words};
-use micro_isa::NoMemory;
+use micro_isa::{MOST_STEPS, NoMemory};
 use micro_kit::read_number;
 use std::alloc::Global;
-
-/// The most steps that a command line can ask for.
-const MOST_STEPS: u32 = 1_048_576;
 
 /// The bound of the steps where none is given.
 const DEFAULT_STEPS: u32 = 100_000;
@@ -17,7 +14,7 @@ const DEFAULT_STEPS: u32 = 100_000;
 /// What the words behind the program's name mean. None exactly where they are no use of it.
 pub fn read_words(alloc: Global, words: &[String]) -> Result<Option<Meaning>, NoMemory>
     ensures meaning { IfOk result (λ meaning. meaning ≡ words_meaning (map string_bytes words.now)) }
-    ensures bounded { IfOk result (λ meaning. IfSome meaning (λ m. m.steps ≤ 1048576)) }
+    ensures bounded { IfOk result (λ meaning. IfSome meaning (λ m. m.steps ≤ MOST_STEPS)) }
 {
     match split_words(alloc, words) {
         Ok(Some(given)) => Ok(meaning_of(&given)),
@@ -28,7 +25,7 @@ pub fn read_words(alloc: Global, words: &[String]) -> Result<Option<Meaning>, No
 
 fn meaning_of(given: &Given) -> Option<Meaning>
     ensures meaning { result ≡ meaning_of (given_parts given.now) }
-    ensures bounded { IfSome result (λ m. m.steps ≤ 1048576) }
+    ensures bounded { IfSome result (λ m. m.steps ≤ MOST_STEPS) }
 {
     let command = given.command?;
     let verb = verb_of(command.as_bytes())?;
@@ -37,7 +34,7 @@ fn meaning_of(given: &Given) -> Option<Meaning>
 
 fn meaning_for(verb: Verb, given: &Given) -> Option<Meaning>
     ensures meaning { result ≡ meaning_for verb (given_parts given.now) }
-    ensures bounded { IfSome result (λ m. m.steps ≤ 1048576) }
+    ensures bounded { IfSome result (λ m. m.steps ≤ MOST_STEPS) }
 {
     let number = number_for(verb, given.number)?;
     let steps = steps_for(verb, given.steps)?;
@@ -104,7 +101,7 @@ fn is_bounded(verb: Verb) -> bool
 /// The bound of the steps, where the command has one or none is given.
 fn steps_for(verb: Verb, steps: Option<&str>) -> Option<u32>
     ensures steps { result ≡ steps_for verb (option_map (λ t. t.now) steps.entry) }
-    ensures bounded { IfSome result (λ n. n ≤ 1048576) }
+    ensures bounded { IfSome result (λ n. n ≤ MOST_STEPS) }
 {
     let Some(text) = steps else {
         return Some(DEFAULT_STEPS);

@@ -1,17 +1,19 @@
 -- The code of a formed program is closed, so the analyses take it.
 use Rattle.std.proofs.Common.{◌≡◌, ℕ, ◌+◌, ◌-◌, ◌<◌, ◌≤◌, List, [], ◌∷◌, map, length, Option, Some, None, Bool, true, false, refl, sym, subst, ◌∙◌, inl, inr, arith}
 use Rattle.std.specs.Prelude.{◌&&◌, nat_lt, slice_get, ⊤}
-use Rattle.std.specs.List.{list_all}
+use Rattle.std.specs.List.{list_all, cons_option}
 use Rattle.std.proofs.lemmas.Bool.{ltb-true, ltb-false}
 use Rattle.std.proofs.lemmas.Option.{same_Some, slice_get_within}
+use Rattle.micro_isa.specs.declared.limits.TheConstants.{MOST_REGISTERS}
 use Rattle.micro_isa.specs.declared.instr.Instr.{Instr}
-use Rattle.micro_isa.specs.declared.instr.Instr.TheVariants.{Li, Mov, Alu, Div, Ctx, Jmp, Branch, Load, Store, Yield, Recv, Send, Halt}
+use Rattle.micro_isa.specs.declared.instr.Instr.TheVariants.{Jmp, Branch, Halt}
 use Rattle.micro_isa.specs.declared.program.VReg.{VReg}
 use Rattle.micro_isa.specs.declared.program.Line.{Line}
 use Rattle.micro_isa.specs.declared.program.Program.{Program}
 use Rattle.micro_isa.specs.Columns.{next_of}
+use Rattle.micro_isa.specs.Operands.{operands_of}
 use Rattle.micro_isa.specs.Formed.{registers_in, target_of, never_falls, all_below, option_below, IsFormedProgram}
-use Rattle.flow_graph.specs.Paths.{HasSmallRegisters, IsClosedCode}
+use Rattle.flow_graph.specs.Paths.{IsSmall, HasSmallRegisters, IsClosedCode}
 
 and_left : (a b : Bool) → (a && b) ≡ true → a ≡ true
 and_left true b h = refl
@@ -21,64 +23,45 @@ and_right : (a b : Bool) → (a && b) ≡ true → b ≡ true
 and_right true b h = h
 and_right false b h = absurd (cc)
 
--- each register of the list is below 128
+-- each register of the list is one of a context's
 abbrev AreSmall : List VReg → Type 0
 AreSmall [] = ⊤
-AreSmall (r ∷ rs) = (r.0 < 128) × AreSmall rs
+AreSmall (r ∷ rs) = (r.0 < MOST_REGISTERS) × AreSmall rs
 
-small : (n : ℕ) → n ≤ 128 → (rs : List VReg) → all_below n (map (λ r. r.0) rs) ≡ true → AreSmall rs
+small : (n : ℕ) → n ≤ MOST_REGISTERS → (rs : List VReg) → all_below n (map (λ r. r.0) rs) ≡ true → AreSmall rs
 small n few [] h = tt
 small n few (r ∷ rs) h =
     let rest = list_all (λ x. nat_lt x n) (map (λ r. r.0) rs) in
     let less = ltb-true r.0 n (and_left (nat_lt r.0 n) rest h) in
     (omega arith, small n few rs (and_right (nat_lt r.0 n) rest h))
 
+small_each : (to a b : Option VReg) → AreSmall (cons_option to (cons_option a (cons_option b []))) → IsSmall to × IsSmall a × IsSmall b
+small_each None None None s = (tt, tt, tt)
+small_each None None (Some b) s = (tt, tt, s.0)
+small_each None (Some a) None s = (tt, s.0, tt)
+small_each None (Some a) (Some b) s = (tt, s.0, s.1.0)
+small_each (Some to) None None s = (s.0, tt, tt)
+small_each (Some to) None (Some b) s = (s.0, tt, s.1.0)
+small_each (Some to) (Some a) None s = (s.0, s.1.0, tt)
+small_each (Some to) (Some a) (Some b) s = (s.0, s.1.0, s.1.1.0)
+
 of_instr : (instr : Instr VReg) (at : ℕ) → AreSmall (registers_in instr) → HasSmallRegisters (record { instr = instr; line = at })
-of_instr (Li to n) at s = record { first = tt; second = tt; written = s.0 }
-of_instr (Mov to from) at s = record { first = s.1.0; second = tt; written = s.0 }
-of_instr (Alu op to a b) at s = record { first = s.1.0; second = s.1.1.0; written = s.0 }
-of_instr (Div op to a b) at s = record { first = s.1.0; second = s.1.1.0; written = s.0 }
-of_instr (Ctx to) at s = record { first = tt; second = tt; written = s.0 }
-of_instr (Jmp target) at s = record { first = tt; second = tt; written = tt }
-of_instr (Branch test a b target) at s = record { first = s.0; second = s.1.0; written = tt }
-of_instr (Load to address) at s = record { first = s.1.0; second = tt; written = s.0 }
-of_instr (Store address from) at s = record { first = s.0; second = s.1.0; written = tt }
-of_instr Yield at s = record { first = tt; second = tt; written = tt }
-of_instr (Recv to channel) at s = record { first = tt; second = tt; written = s.0 }
-of_instr (Send channel from) at s = record { first = s.0; second = tt; written = tt }
-of_instr Halt at s = record { first = tt; second = tt; written = tt }
+of_instr instr at s =
+    let x = operands_of instr in
+    let each = small_each x.to x.a x.b s in
+    record { first = each.1; second = each.2; written = each.0 }
 
 -- an instruction falls to the following one, or never
 falls_to : (instr : Instr VReg) (i j : ℕ) → (next_of instr i).fall ≡ Some j → (j ≡ i + 1) × (never_falls instr ≡ false)
-falls_to (Li to n) i j e = (sym (same_Some _ _ e), refl)
-falls_to (Mov to from) i j e = (sym (same_Some _ _ e), refl)
-falls_to (Alu op to a b) i j e = (sym (same_Some _ _ e), refl)
-falls_to (Div op to a b) i j e = (sym (same_Some _ _ e), refl)
-falls_to (Ctx to) i j e = (sym (same_Some _ _ e), refl)
-falls_to (Jmp target) i j e = absurd (cc)
-falls_to (Branch test a b target) i j e = (sym (same_Some _ _ e), refl)
-falls_to (Load to address) i j e = (sym (same_Some _ _ e), refl)
-falls_to (Store address from) i j e = (sym (same_Some _ _ e), refl)
-falls_to Yield i j e = (sym (same_Some _ _ e), refl)
-falls_to (Recv to channel) i j e = (sym (same_Some _ _ e), refl)
-falls_to (Send channel from) i j e = (sym (same_Some _ _ e), refl)
 falls_to Halt i j e = absurd (cc)
+falls_to (Jmp target) i j e = absurd (cc)
+falls_to _ i j e = (sym (same_Some _ _ e), refl)
 
 -- an instruction jumps to its target, or never
 jumps_to : (instr : Instr VReg) (i : ℕ) → (next_of instr i).jump ≡ target_of instr
-jumps_to (Li to n) i = refl
-jumps_to (Mov to from) i = refl
-jumps_to (Alu op to a b) i = refl
-jumps_to (Div op to a b) i = refl
-jumps_to (Ctx to) i = refl
 jumps_to (Jmp target) i = refl
 jumps_to (Branch test a b target) i = refl
-jumps_to (Load to address) i = refl
-jumps_to (Store address from) i = refl
-jumps_to Yield i = refl
-jumps_to (Recv to channel) i = refl
-jumps_to (Send channel from) i = refl
-jumps_to Halt i = refl
+jumps_to _ i = refl
 
 below_by : (j n : ℕ) (b : Bool) → nat_lt j n ≡ b → (n ≤ j → ⊥) → j < n
 below_by j n true e never = ltb-true j n e

@@ -1,5 +1,6 @@
 -- Edges and paths of a program's instructions.
 use Rattle.std.specs.Prelude.{ℕ, ◌≡◌, ◌<◌, ◌≤◌, ◌⊎◌, List, [], ◌∷◌, Option, Some, None, length, slice_get, ⊤}
+use Rattle.micro_isa.specs.declared.limits.TheConstants.{MOST_INSTRUCTIONS, MOST_REGISTERS}
 use Rattle.micro_isa.specs.declared.instr.Next.{Next}
 use Rattle.micro_isa.specs.declared.program.Line.{Line}
 use Rattle.micro_isa.specs.declared.program.VReg.{VReg}
@@ -22,21 +23,21 @@ Walk edge i (h ∷ rest) j = edge i h × Walk edge h rest j
 abbrev pub Reaches : List Line → ℕ → ℕ → Type 0
 Reaches code i j = (rest : List ℕ) × Walk (Edge code) i rest j
 
--- the register, if there is one, is below 128
+-- the register, if there is one, is one of a context's
 abbrev pub IsSmall : Option VReg → Type 0
 IsSmall None = ⊤
-IsSmall (Some register) = register.0 < 128
+IsSmall (Some register) = register.0 < MOST_REGISTERS
 
--- the registers of a line are below 128
+-- the registers of a line are among a context's
 pub record HasSmallRegisters (line : Line) : Type 0 where
   pub first : IsSmall (reads_in line.instr).first
   pub second : IsSmall (reads_in line.instr).second
   pub written : IsSmall (written_by line.instr)
 
--- code that the analyses take: 1 to 2048 instructions, registers below 128, each successor an instruction
+-- code that the analyses take: as many instructions and registers as a context may have, each successor an instruction
 pub record IsClosedCode (code : List Line) : Type 0 where
   pub some : 0 < length code
-  pub few : length code ≤ 2048
+  pub few : length code ≤ MOST_INSTRUCTIONS
   pub registers : (i : ℕ) (line : Line) → slice_get code i ≡ Some line → HasSmallRegisters line
   pub closed : (i j : ℕ) → Edge code i j → j < length code
 

@@ -1,4 +1,5 @@
 ghost use Rattle.std.specs.Prelude.{◌≡◌, ◌<◌, ◌≤◌, Some, length, slice_get, slice_index_or, IfOk, false};
+ghost use Rattle.micro_isa.specs.declared.limits.TheConstants.{MOST_INSTRUCTIONS};
 ghost use Rattle.flow_graph.specs.Flows.{successors_in, marks_in, IsFlowOf};
 ghost use Rattle.flow_graph.specs.Paths.{IsClosedCode, AreSuccessors};
 
@@ -44,7 +45,7 @@ impl Flow {
 
 /// The successors of each instruction.
 fn successor_list(alloc: Global, code: &[Line]) -> Result<List<Next>, NoMemory>
-    requires { length code.now ≤ 2048 }
+    requires { length code.now ≤ MOST_INSTRUCTIONS }
     ensures { IfOk result (λ successors. AreSuccessors code.now successors) }
 {
     let mut list = List::new(alloc);

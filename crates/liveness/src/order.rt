@@ -1,4 +1,5 @@
 ghost use Rattle.std.specs.Prelude.{◌≡◌, ◌+◌, ◌<◌, ◌≤◌, length, OnOk};
+ghost use Rattle.micro_isa.specs.declared.limits.TheConstants.{MOST_INSTRUCTIONS};
 ghost use Rattle.flow_graph.specs.Flows.{successors_in};
 ghost use Rattle.liveness.specs.Orders.{weight};
 
@@ -17,7 +18,7 @@ struct Turn {
 /// rounds, and no result rests on it.
 pub fn visiting_order(alloc: Global, flow: &Flow, n: usize) -> Result<List<u32>, NoMemory>
     requires whole { n ≡ length (successors_in flow.now) }
-    requires few { n ≤ 2048 }
+    requires few { n ≤ MOST_INSTRUCTIONS }
 {
     let Ok(mut marks) = Vec::from_elem(alloc, false, n) else {
         return Err(NoMemory);

@@ -1,4 +1,5 @@
 ghost use Rattle.std.specs.Prelude.{◌≤◌, ◌<◌, length, take, IfOk, IfErr, OnOk};
+ghost use Rattle.micro_isa.specs.declared.limits.TheConstants.{LONGEST_IMAGE};
 ghost use Rattle.micro_kit.specs.Streams.{Grew, IsWhole, Rose, StoppedBy};
 
 use crate::stream::{Got, Put, Sink, Source};
@@ -29,7 +30,7 @@ pub fn read_all<I: Source>(
     source: &mut I,
     limit: usize,
 ) -> Result<Vec<u8>, ReadFault>
-    requires { limit ≤ 167772160 }
+    requires { limit ≤ LONGEST_IMAGE }
     ensures ok { IfOk result (λ bytes. IsWhole (I.left source.old) bytes.items (I.left source.new) limit) }
     ensures cause { IfErr result (λ why. StoppedBy why (I.left source.old) (I.left source.new) (I.faults source.old) (I.faults source.new) limit) }
     ensures later { I.faults source.old ≤ I.faults source.new }

@@ -2,6 +2,7 @@
 use Rattle.std.proofs.Common.{◌≡◌, ◌==◌, false, ℕ, ◌+◌, ◌<◌, ◌≤◌, List, Some, length, get_or, slice_get, subst, sym, inl, inr, arith}
 use Rattle.std.proofs.lemmas.Bool.{cases_eq, eq-eqb}
 use Rattle.std.proofs.lemmas.Option.{slice_get_within, get_or_from_slice_get}
+use Rattle.micro_isa.specs.declared.limits.TheConstants.{MOST_INSTRUCTIONS}
 use Rattle.micro_isa.specs.declared.program.Line.{Line}
 use Rattle.micro_isa.specs.Columns.{next_of}
 use Rattle.flow_graph.specs.Paths.{Below, HasSmallRegisters, IsClosedCode}
@@ -26,7 +27,7 @@ one_more code i d fine before = record {
   ];
 }
 
-pub closed : (code : List Line) → 0 < length code → length code ≤ 2048 → AreFineBelow code (length code) → IsClosedCode code
+pub closed : (code : List Line) → 0 < length code → length code ≤ MOST_INSTRUCTIONS → AreFineBelow code (length code) → IsClosedCode code
 closed code some few fine = record {
   some = some;
   few = few;

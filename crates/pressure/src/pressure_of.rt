@@ -1,4 +1,5 @@
 ghost use Rattle.std.specs.Prelude.{ℕ, ◌≤◌, ◌<◌, length};
+ghost use Rattle.micro_isa.specs.declared.limits.TheConstants.{MOST_REGISTERS};
 ghost use Rattle.flow_graph.specs.Paths.{IsClosedCode};
 ghost use Rattle.liveness.specs.Lives.{IsLiveOf};
 ghost use Rattle.liveness.specs.Sets.{HasSize};
@@ -23,7 +24,7 @@ pub fn pressures(program: &Program, live: &Live) -> Pressure
     requires live { IsLiveOf program.now.code live.now }
     ensures exact { IsPressureOf program.now.code result }
     ensures order { result.private ≤ result.all }
-    ensures few { result.all ≤ 128 }
+    ensures few { result.all ≤ MOST_REGISTERS }
 {
     let code = program.code.as_slice();
     Pressure {
@@ -53,7 +54,7 @@ fn total_pressure(code: &[Line], live: &Live) -> u32
     requires live { IsLiveOf code.now live.now }
     ensures exact { IsTotalPressure code.now result }
     ensures stay { (i n : ℕ) → i < length code.now → HasSize (Stays code.now i) n → n ≤ result }
-    ensures few { result ≤ 128 }
+    ensures few { result ≤ MOST_REGISTERS }
 {
     let mut greatest = after_size(code, live, 0);
     'lines: for i in 0..code.len() {

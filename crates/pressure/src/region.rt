@@ -1,4 +1,5 @@
 ghost use Rattle.std.specs.Prelude.{◌≡◌, ◌==◌, ◌+◌, ◌<◌, ◌≤◌, cond, length, slice_index, IfOk};
+ghost use Rattle.micro_isa.specs.declared.limits.TheConstants.{MOST_INSTRUCTIONS};
 ghost use Rattle.flow_graph.specs.Paths.{IsClosedCode};
 ghost use Rattle.flow_graph.specs.Flows.{IsFlowOf};
 ghost use Rattle.pressure.specs.Regions.{numbers_in, count_in, AreRegionsOf};
@@ -48,7 +49,7 @@ impl Regions {
 /// Numbers the labels in order.
 fn numbered(alloc: Global, code: &[Line], labels: &[u32]) -> Result<Regions, NoMemory>
     requires labelled { IsLabelled code.now labels.now }
-    requires few { length code.now ≤ 2048 }
+    requires few { length code.now ≤ MOST_INSTRUCTIONS }
     ensures { IfOk result (λ regions. AreRegionsOf code.now regions) }
 {
     let mut numbers: List<u32> = List::new(alloc);

@@ -1,4 +1,5 @@
 ghost use Rattle.std.specs.Prelude.{◌<◌, ◌≤◌, length};
+ghost use Rattle.micro_isa.specs.declared.limits.TheConstants.{MOST_REGISTERS};
 ghost use Rattle.flow_graph.specs.Paths.{IsClosedCode};
 ghost use Rattle.liveness.specs.Lives.{IsLiveOf};
 ghost use Rattle.liveness.specs.Liveness.{LiveIn};
@@ -14,7 +15,7 @@ pub fn in_size(code: &[Line], live: &Live, i: usize) -> u32
     requires live { IsLiveOf code.now live.now }
     requires here { i < length code.now }
     ensures exact { HasSize (LiveIn code.now i) result }
-    ensures few { result ≤ 128 }
+    ensures few { result ≤ MOST_REGISTERS }
 {
     live.live_in(i as u32).count_ones()
 }
@@ -35,7 +36,7 @@ pub fn after_size(code: &[Line], live: &Live, i: usize) -> u32
     requires live { IsLiveOf code.now live.now }
     requires here { i < length code.now }
     ensures exact { HasSize (IsAfter code.now i) result }
-    ensures few { result ≤ 128 }
+    ensures few { result ≤ MOST_REGISTERS }
 {
     values_after(code, live, i).count_ones()
 }

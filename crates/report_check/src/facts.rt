@@ -2,6 +2,7 @@
 
 ghost use Rattle.std.specs.Prelude.{◌≡◌, ◌≤◌, map, length, IfOk};
 ghost use Rattle.std.specs.List.{All};
+ghost use Rattle.micro_isa.specs.declared.limits.TheConstants.{MOST_INSTRUCTIONS};
 ghost use Rattle.flow_graph.specs.Paths.{IsClosedCode};
 ghost use Rattle.flow_graph.specs.Flows.{marks_in, IsFlowOf};
 ghost use Rattle.pressure.specs.Pressures.{IsPart};
@@ -58,7 +59,7 @@ fn facts_of(alloc: Global, program: &Program) -> Result<Facts, NoMemory>
 /// The lines of the instructions that no path reaches.
 #[tactic(auto, using(crate::proofs::Gathering::next_list))]
 fn unreachable_lines(alloc: Global, code: &[Line], flow: &Flow) -> Result<List<u32>, NoMemory>
-    requires few { length code.now ≤ 2048 }
+    requires few { length code.now ≤ MOST_INSTRUCTIONS }
     requires flow { IsFlowOf code.now flow.now }
     ensures { IfOk result (λ lines. lines ≡ lost_lines code.now (marks_in flow.now)) }
 {

@@ -3,6 +3,7 @@
 ghost use Rattle.std.specs.Prelude.{◌≡◌, ◌++◌, ◌<◌, ◌≤◌, length, map, decimal, slice_get, OnOk, IfOk};
 ghost use Rattle.std.specs.List.{All, flat_map};
 ghost use Rattle.std.specs.Option.{option_copied};
+ghost use Rattle.micro_isa.specs.declared.limits.TheConstants.{MOST_CONTEXTS};
 ghost use Rattle.micro_isa.specs.Formed.{IsFormedBundle};
 ghost use Rattle.pressure.specs.Pressures.{IsPart, need_of};
 ghost use Rattle.report_check.specs.Text.{in_order};
@@ -29,7 +30,7 @@ pub fn print_check(alloc: Global, bundle: &Bundle) -> Result<Vec<u8>, NoMemory>
 #[tactic(auto, unfolding(crate::specs::Checks::check_text))]
 fn print_facts(alloc: Global, all: &List<Facts>, file: u32) -> Result<Vec<u8>, NoMemory>
     requires some { 0 < length all.now }
-    requires few { length all.now ≤ 8 }
+    requires few { length all.now ≤ MOST_CONTEXTS }
     requires parts { All (λ facts. IsPart facts.pressure) all.now }
     ensures { IfOk result (λ text. text.items ≡ check_text all.now file) }
 {
@@ -42,7 +43,7 @@ fn print_facts(alloc: Global, all: &List<Facts>, file: u32) -> Result<Vec<u8>, N
 #[tactic(auto, using(crate::proofs::Gathering::all_parts))]
 fn need_of_all(alloc: Global, all: &[Facts]) -> Result<u32, NoMemory>
     requires some { 0 < length all.now }
-    requires few { length all.now ≤ 8 }
+    requires few { length all.now ≤ MOST_CONTEXTS }
     requires parts { All (λ facts. IsPart facts.pressure) all.now }
     ensures { IfOk result (λ n. n ≡ need_of (map (λ facts. facts.pressure) all.now)) }
 {
@@ -52,7 +53,7 @@ fn need_of_all(alloc: Global, all: &[Facts]) -> Result<u32, NoMemory>
 
 #[tactic(auto, using(crate::proofs::Gathering::next_list))]
 fn put_contexts(text: &mut Vec<u8>, all: &List<Facts>) -> Result<(), NoMemory>
-    requires few { length all.now ≤ 8 }
+    requires few { length all.now ≤ MOST_CONTEXTS }
     ensures { OnOk result (text.new.items ≡ text.old.items ++ in_order (length all.now) (λ c. context_lines c (slice_get all.now c))) }
 {
     for c in 0..all.len() {
