@@ -1,0 +1,5 @@
+pub mod FirstFits
+pub mod Groups
+pub mod PlacedPlans
+pub mod Settling
+pub mod Fits

@@ -1,0 +1,85 @@
+ghost use Rattle.std.specs.Prelude.{ℕ, ◌≡◌, ◌<◌, ◌≤◌, ◌⊎◌, ◌↔◌, length, slice_index};
+ghost use Rattle.std.specs.List.{All};
+ghost use Rattle.flow_graph.specs.Paths.{IsClosedCode};
+ghost use Rattle.liveness.specs.Lives.{IsLiveOf};
+ghost use Rattle.range_colour.specs.Groups.{Among};
+ghost use Rattle.range_colour.specs.Settling.{AllMeet, In, IsGathered, MeetBy};
+
+use liveness::{Live, crossing, has, values_after};
+use micro_isa::{Line, VReg};
+
+/// The registers of a group of instructions, and those that cross in it.
+#[derive(Clone, Copy, Debug)]
+pub struct Group {
+    pub registers: u128,
+    pub crossing: u128,
+}
+
+/// The group of these instructions. `meets` then has, for each register, those that it meets there.
+pub fn gather(code: &[Line], live: &Live, members: &[u32], meets: &mut [u128]) -> Group
+    requires closed { IsClosedCode code.now }
+    requires live { IsLiveOf code.now live.now }
+    requires members { All (λ i. i < length code.now) members.now }
+    requires long { length meets.old ≡ 128 }
+    ensures { IsGathered code.now (Among members.now) result.registers result.crossing meets.new }
+{
+    clear(meets);
+    let mut group = Group {
+        registers: 0,
+        crossing: 0,
+    };
+    let mut last = 0;
+    'members: for at in 0..members.len() {
+        let i = members[at] as usize;
+        let before = live.live_in(members[at]);
+        let after = values_after(code, live, i);
+        last = join(meets, last, before);
+        last = join(meets, last, after);
+        group.registers |= before | after;
+        group.crossing |= crossing(code, live, i);
+    }
+    group
+}
+
+/// Nothing meets yet.
+fn clear(meets: &mut [u128])
+    ensures { (j k : ℕ) → In (slice_index meets.new k) j → ⊥ }
+{
+    'registers: for set in meets.iter_mut() {
+        *set = 0;
+    }
+}
+
+/// Makes all of the set meet. Those of `last` do already, so there is nothing to do for a part of
+/// it. The set whose registers are known to meet now.
+fn join(meets: &mut [u128], last: u128, set: u128) -> u128
+    requires long { length meets.old ≡ 128 }
+    requires last { AllMeet meets.old last }
+    ensures exact { (j k : ℕ) → MeetBy meets.new j k ↔ (MeetBy meets.old j k ⊎ (In set j × In set k)) }
+    ensures last { AllMeet meets.new result }
+{
+    if set & !last == 0 {
+        return last;
+    }
+    join_all(meets, set);
+    set
+}
+
+fn join_all(meets: &mut [u128], set: u128)
+    requires { length meets.old ≡ 128 }
+    ensures { (j k : ℕ) → MeetBy meets.new j k ↔ (MeetBy meets.old j k ⊎ (In set j × In set k)) }
+{
+    'registers: for k in 0..width(set) {
+        if has(set, VReg(k as u16)) {
+            meets[k] |= set;
+        }
+    }
+}
+
+/// One above the greatest register of the set.
+pub fn width(set: u128) -> usize
+    ensures above { (k : ℕ) → In set k → k < result }
+    ensures few { result ≤ 128 }
+{
+    128 - set.leading_zeros() as usize
+}

@@ -1,0 +1,11 @@
+//! Plans by first fit: over a whole program, or over each of its regions.
+#![tactic(auto)]
+
+mod colour;
+mod fit;
+mod group;
+mod rows;
+mod whole;
+
+pub use fit::Fit;
+pub use whole::{first_fit, whole_fit};

@@ -1,0 +1,67 @@
+ghost use Rattle.std.specs.Prelude.{ℕ, ◌≡◌, ◌<◌, Some, length, slice_index, IfOk};
+ghost use Rattle.std.specs.Option.{option_map};
+ghost use Rattle.std.specs.List.{Contains};
+ghost use Rattle.flow_graph.specs.Paths.{IsClosedCode};
+ghost use Rattle.liveness.specs.Lives.{IsLiveOf};
+ghost use Rattle.liveness.specs.Sets.{members};
+ghost use Rattle.plan.specs.declared.row.Place.{Place as Placed};
+ghost use Rattle.plan.specs.ValidPlans.{registers_of};
+ghost use Rattle.range_colour.specs.Groups.{InUse};
+ghost use Rattle.range_colour.specs.PlacedPlans.{IsPlacedRow};
+ghost use Rattle.range_colour.specs.Settling.{In};
+
+use liveness::{Live, take_least};
+use micro_isa::{Line, List, NoMemory, VReg, writes};
+use plan::{Place, PlanRow};
+use std::alloc::Global;
+
+/// The row of instruction `i`, whose registers have these places.
+pub fn row_at(
+    alloc: Global,
+    code: &[Line],
+    live: &Live,
+    i: usize,
+    places: &[u16],
+) -> Result<PlanRow, NoMemory>
+    requires closed { IsClosedCode code.now }
+    requires live { IsLiveOf code.now live.now }
+    requires here { i < length code.now }
+    requires inside { (k : ℕ) → InUse code.now i k k → k < length places.now }
+    requires small { (k : ℕ) → InUse code.now i k k → slice_index places.now k < 256 }
+    ensures { IfOk result (IsPlacedRow code.now i (slice_index places.now)) }
+{
+    let write = write_place(writes(&code[i].instr), places);
+    let places = listed(alloc, live.live_in(i as u32), places)?;
+    Ok(PlanRow { places, write })
+}
+
+/// The places of these registers, in increasing order of register.
+fn listed(alloc: Global, set: u128, places: &[u16]) -> Result<List<Place>, NoMemory>
+    requires inside { (k : ℕ) → In set k → k < length places.now }
+    requires small { (k : ℕ) → In set k → slice_index places.now k < 256 }
+    ensures registers { IfOk result (λ list. registers_of list ≡ members 128 set) }
+    ensures places { IfOk result (λ list. (q : Placed) → Contains list q → q.place ≡ slice_index places.now q.register.0) }
+{
+    let mut list = List::new(alloc);
+    list.reserve(set.count_ones() as usize)?;
+    let mut rest = set;
+    'registers: while let Some(register) = take_least(&mut rest) {
+        let place = places[register.0 as usize] as u8;
+        if list.push(Place { register, place }).is_err() {
+            return Err(NoMemory);
+        }
+    }
+    Ok(list)
+}
+
+/// The place of the register that is written, if one is.
+fn write_place(register: Option<VReg>, places: &[u16]) -> Option<u8>
+    requires inside { (k : ℕ) → register ≡ Some (record { 0 = k }) → k < length places.now }
+    requires small { (k : ℕ) → register ≡ Some (record { 0 = k }) → slice_index places.now k < 256 }
+    ensures { result ≡ option_map (λ register. slice_index places.now register.0) register }
+{
+    match register {
+        Some(VReg(k)) => Some(places[k as usize] as u8),
+        None => None,
+    }
+}

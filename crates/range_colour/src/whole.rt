@@ -1,0 +1,118 @@
+ghost use Rattle.std.specs.Prelude.{ℕ, ◌≡◌, ◌<◌, ◌≤◌, length, slice_index, IfOk, IfSome, vec_len};
+ghost use Rattle.flow_graph.specs.Paths.{Edge, IsClosedCode};
+ghost use Rattle.liveness.specs.Lives.{IsLiveOf};
+ghost use Rattle.plan.specs.ValidPlans.{IsValidPlan};
+ghost use Rattle.range_colour.specs.Groups.{Every, InUse};
+ghost use Rattle.range_colour.specs.PlacedPlans.{AreRowsPlaced, IsWholeFit, MovesNothing};
+ghost use Rattle.range_colour.specs.Fits.{IsFit};
+
+use crate::fit::Fit;
+use crate::rows::row_at;
+use liveness::Live;
+use micro_isa::{Line, List, MOST_FILE, NoMemory, Program};
+use plan::{Plan, PlanRow};
+use std::alloc::Global;
+
+/// The plan by first fit over all instructions, in which no register moves; none exactly where it
+/// runs out of the `p` places for crossing registers or of the `r` for the others.
+pub fn first_fit(
+    alloc: Global,
+    program: &Program,
+    live: &Live,
+    p: u32,
+    r: u32,
+) -> Result<Option<Plan>, NoMemory>
+    requires closed { IsClosedCode program.now.code }
+    requires live { IsLiveOf program.now.code live.now }
+    requires order { p ≤ r }
+    requires few { r ≤ MOST_FILE }
+    ensures fit { IfOk result (IsWholeFit program.now.code p r) }
+    ensures valid { IfOk result (λ found. IfSome found (IsValidPlan program.now.code)) }
+    ensures still { IfOk result (λ found. IfSome found (λ plan. (i j : ℕ) → Edge program.now.code i j → MovesNothing program.now.code plan i j)) }
+{
+    whole_plan(alloc, program.code.as_slice(), live, p, r)
+}
+
+fn whole_plan(
+    alloc: Global,
+    code: &[Line],
+    live: &Live,
+    p: u32,
+    r: u32,
+) -> Result<Option<Plan>, NoMemory>
+    requires closed { IsClosedCode code.now }
+    requires live { IsLiveOf code.now live.now }
+    requires order { p ≤ r }
+    requires few { r ≤ MOST_FILE }
+    ensures fit { IfOk result (IsWholeFit code.now p r) }
+    ensures valid { IfOk result (λ found. IfSome found (IsValidPlan code.now)) }
+    ensures still { IfOk result (λ found. IfSome found (λ plan. (i j : ℕ) → Edge code.now i j → MovesNothing code.now plan i j)) }
+{
+    let fit = whole_fit(alloc, code, live)?;
+    if !fit.fits(p, r) {
+        return Ok(None);
+    }
+    let rows = rows(alloc, code, live, fit.places())?;
+    Ok(Some(Plan { p, r, rows }))
+}
+
+/// The first fit over all instructions.
+pub fn whole_fit(alloc: Global, code: &[Line], live: &Live) -> Result<Fit, NoMemory>
+    requires closed { IsClosedCode code.now }
+    requires live { IsLiveOf code.now live.now }
+    ensures { IfOk result (IsFit code.now Every) }
+{
+    let members = all_of(alloc, code.len())?;
+    let Ok(mut meets) = Vec::from_elem(alloc, 0u128, 128) else {
+        return Err(NoMemory);
+    };
+    let mut taken = Vec::new(alloc);
+    Fit::over(
+        alloc,
+        code,
+        live,
+        members.as_slice(),
+        &mut meets,
+        &mut taken,
+    )
+}
+
+/// The numbers below `n`.
+fn all_of(alloc: Global, n: usize) -> Result<List<u32>, NoMemory>
+    requires { n ≤ 2048 }
+    ensures whole { IfOk result (λ list. length list ≡ n) }
+    ensures each { IfOk result (λ list. (k : ℕ) → k < n → slice_index list k ≡ k) }
+{
+    let mut list = List::new(alloc);
+    list.reserve(n)?;
+    'places: for i in 0..n {
+        if list.push(i as u32).is_err() {
+            return Err(NoMemory);
+        }
+    }
+    Ok(list)
+}
+
+/// The rows of all instructions, whose registers have the same places everywhere.
+fn rows(
+    alloc: Global,
+    code: &[Line],
+    live: &Live,
+    places: &[u16],
+) -> Result<List<PlanRow>, NoMemory>
+    requires closed { IsClosedCode code.now }
+    requires live { IsLiveOf code.now live.now }
+    requires inside { (i k : ℕ) → i < length code.now → InUse code.now i k k → k < length places.now }
+    requires small { (i k : ℕ) → i < length code.now → InUse code.now i k k → slice_index places.now k < 256 }
+    ensures { IfOk result (AreRowsPlaced code.now (λ i. slice_index places.now)) }
+{
+    let mut rows = List::new(alloc);
+    rows.reserve(code.len())?;
+    'lines: for i in 0..code.len() {
+        let row = row_at(alloc, code, live, i, places)?;
+        let Ok(()) = rows.push(row) else {
+            return Err(NoMemory);
+        };
+    }
+    Ok(rows)
+}
