@@ -1,0 +1,5 @@
+pub mod Slots
+pub mod Stages
+pub mod Rising
+pub mod Once
+pub mod Valid

@@ -1,0 +1,9 @@
+use Rattle.point_walk.specs.Walks.{Walked}
+use Rattle.point_walk.specs.Tables.{IsTable}
+use Rattle.point_walk.proofs.walking.walk_rows.Given as goal
+
+abbrev pub invariant-rows : goal.invariant-rows
+invariant-rows l = record {
+  table : IsTable l.wishes;
+  walked : Walked l.code l.p l.i l.rows l.wishes;
+}

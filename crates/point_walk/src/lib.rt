@@ -1,0 +1,9 @@
+//! The walk: a plan that keeps each register where it was, as long as it can.
+#![tactic(auto)]
+
+mod giving;
+mod row;
+mod stage;
+mod walking;
+
+pub use walking::walk;

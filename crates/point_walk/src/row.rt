@@ -1,0 +1,181 @@
+ghost use Rattle.std.specs.Prelude.{ℕ, ◌≡◌, ◌<◌, Some, slice_get, IfOk, length, if◌then◌else◌};
+ghost use Rattle.flow_graph.specs.Paths.{IsClosedCode, IsSmall};
+ghost use Rattle.liveness.specs.Lives.{IsLiveOf};
+ghost use Rattle.liveness.specs.Sets.{members};
+ghost use Rattle.point_walk.specs.Walks.{written_in, falls_in, IsWritePlace, IsPlaceFor, IsLeastApart, place_at, place_or_zero, nothing, put, entries, Follows, AreGiven};
+ghost use Rattle.point_walk.specs.Tables.{IsTable, ArePlacesOf};
+
+use crate::giving::{least_free, place_set};
+use crate::stage::{fill, grant_below, grant_free};
+use liveness::{Live, crossing, survivors, take_least};
+use micro_isa::{Line, List, NoMemory, VReg, successors, writes};
+use plan::{Place, PlanRow};
+use std::alloc::Global;
+
+/// The row of instruction `i`, given the wishes from the row before; leaves those for the next.
+pub fn next_row(
+    alloc: Global,
+    code: &[Line],
+    live: &Live,
+    i: usize,
+    p: u32,
+    wishes: &mut [Option<u8>],
+) -> Result<PlanRow, NoMemory>
+    requires closed { IsClosedCode code.now }
+    requires live { IsLiveOf code.now live.now }
+    requires here { i < length code.now }
+    requires wishes { IsTable wishes.old }
+    ensures wishes { IsTable wishes.new }
+    ensures follows { IfOk result (λ row. Follows code.now p i wishes.old row wishes.new) }
+{
+    let before = live.live_in(i as u32);
+    let stay = survivors(code, live, i);
+    let mut places: [Option<u8>; 128] = [None; 128];
+    give_places(before, crossing(code, live, i), wishes, p, &mut places);
+    let written = writes(&code[i].instr);
+    let write = write_place(written, stay, &places);
+    let listed = list_places(alloc, before, &places)?;
+    leave(wishes, &places, falls(code, i), written, write);
+    Ok(PlanRow {
+        places: listed,
+        write,
+    })
+}
+
+/// Gives places to the registers that are live in: by their wishes, as far as those are private
+/// where they must be and free, and else the least free ones.
+fn give_places(before: u128, cross: u128, wishes: &[Option<u8>], p: u32, places: &mut [Option<u8>])
+    requires wishes { IsTable wishes.now }
+    requires none { places.old ≡ nothing }
+    ensures given { AreGiven p wishes.now (members 128 before) (members 128 cross) places.new }
+    ensures table { IsTable places.new }
+{
+    let mut taken = 0;
+    grant_below(cross, wishes, p, places, &mut taken);
+    fill(cross, places, &mut taken);
+    grant_free(before, wishes, places, &mut taken);
+    fill(before, places, &mut taken);
+}
+
+/// The place of the write: the written register's own, if it has one in this row, else the least
+/// that no survivor has.
+fn write_place(written: Option<VReg>, stay: u128, places: &[Option<u8>]) -> Option<u8>
+    requires small { IsSmall written }
+    requires table { IsTable places.now }
+    ensures place { IsWritePlace (members 128 stay) places.now written result }
+    ensures low { (x : ℕ) → result ≡ Some x → x < 128 }
+{
+    match written {
+        Some(register) => Some(place_for(register, stay, places)),
+        None => None,
+    }
+}
+
+fn place_for(register: VReg, stay: u128, places: &[Option<u8>]) -> u8
+    requires small { register.0 < 128 }
+    requires table { IsTable places.now }
+    ensures place { IsPlaceFor (members 128 stay) places.now (place_at places.now register.0) (Some result) }
+    ensures low { result < 128 }
+{
+    match places[register.0 as usize] {
+        Some(place) => place,
+        None => least_apart(stay, places),
+    }
+}
+
+/// The least place that no register of the set has.
+fn least_apart(registers: u128, places: &[Option<u8>]) -> u8
+    requires table { IsTable places.now }
+    ensures { IsLeastApart (members 128 registers) places.now result }
+{
+    least_free(places_of(registers, places))
+}
+
+/// The places that registers of the set have.
+fn places_of(registers: u128, places: &[Option<u8>]) -> u128
+    requires table { IsTable places.now }
+    ensures { ArePlacesOf (members 128 registers) places.now result }
+{
+    let mut set = 0;
+    let mut rest = registers;
+    'registers: while let Some(register) = take_least(&mut rest) {
+        set |= place_set(places[register.0 as usize]);
+    }
+    set
+}
+
+/// The entries of the row: the registers of the set with their places.
+fn list_places(
+    alloc: Global,
+    registers: u128,
+    places: &[Option<u8>],
+) -> Result<List<Place>, NoMemory>
+    requires table { IsTable places.now }
+    ensures { IfOk result (λ list. list ≡ entries places.now (members 128 registers)) }
+{
+    let mut list = List::new(alloc);
+    list.reserve(registers.count_ones() as usize)?;
+    let mut rest = registers;
+    'registers: while let Some(register) = take_least(&mut rest) {
+        let place = place_of(places[register.0 as usize]);
+        let Ok(()) = list.push(Place { register, place }) else {
+            return Err(NoMemory);
+        };
+    }
+    Ok(list)
+}
+
+fn place_of(place: Option<u8>) -> u8
+    ensures { result ≡ place_or_zero place }
+{
+    match place {
+        Some(place) => place,
+        None => 0,
+    }
+}
+
+/// Whether instruction `i` falls through to the next.
+fn falls(code: &[Line], i: usize) -> bool
+    requires closed { IsClosedCode code.now }
+    requires here { i < length code.now }
+    ensures { result ≡ falls_in i (slice_get code.now i) }
+{
+    successors(&code[i].instr, i as u32).fall.is_some()
+}
+
+/// The wishes for the next row: the places after this one, if it falls through, and else none.
+fn leave(
+    wishes: &mut [Option<u8>],
+    places: &[Option<u8>],
+    falls: bool,
+    written: Option<VReg>,
+    write: Option<u8>,
+)
+    requires wishes { IsTable wishes.old }
+    requires places { IsTable places.now }
+    requires small { IsSmall written }
+    ensures { wishes.new ≡ (if falls then put written write places.now else nothing) }
+{
+    if falls {
+        leave_places(wishes, places, written, write);
+    } else {
+        wishes.fill(None);
+    }
+}
+
+fn leave_places(
+    wishes: &mut [Option<u8>],
+    places: &[Option<u8>],
+    written: Option<VReg>,
+    write: Option<u8>,
+)
+    requires wishes { IsTable wishes.old }
+    requires places { IsTable places.now }
+    requires small { IsSmall written }
+    ensures { wishes.new ≡ put written write places.now }
+{
+    wishes.copy_from_slice(places);
+    if let Some(register) = written {
+        wishes[register.0 as usize] = write;
+    }
+}
