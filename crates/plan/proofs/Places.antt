@@ -7,6 +7,7 @@ use Rattle.std.proofs.lemmas.Bool.{cases_eq}
 use Rattle.std.proofs.lemmas.Bool.Decides.{leb_tells, nat_tests}
 use Rattle.std.proofs.lemmas.List.Elements.{Contains-get_or}
 use Rattle.std.proofs.lemmas.Option.{same_Some}
+use Rattle.micro_isa.specs.declared.limits.TheConstants.{MOST_FILE}
 use Rattle.micro_isa.specs.declared.program.Line.{Line}
 use Rattle.micro_isa.specs.declared.program.VReg.{VReg}
 use Rattle.micro_isa.specs.Columns.{written_by}
@@ -192,7 +193,7 @@ out_is code r i set places write listed written rises each e out =
     by (Some q) (Some d) first wrote = lesser q d first wrote (nat_lt d.register.0 q.register.0) refl
 
 -- places in range are low
-pub places_low : (code : List Line) (r i : ℕ) (places : List Place) (write : Option ℕ) → r ≤ 128 → IsInRange code r i places write → All (λ q. q.place < 128) places
+pub places_low : (code : List Line) (r i : ℕ) (places : List Place) (write : Option ℕ) → r ≤ MOST_FILE → IsInRange code r i places write → All (λ q. q.place < MOST_FILE) places
 places_low code r i places write few in_range k d inside =
     let has = Contains-get_or places k d inside in
     elim (leb_tells r (get_or places k d).place) [

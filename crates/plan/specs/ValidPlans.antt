@@ -1,6 +1,7 @@
 -- Which plans are valid for a program's code.
 use Rattle.std.specs.Prelude.{ℕ, ◌≡◌, ◌≢◌, ◌<◌, ◌≤◌, ◌↔◌, ◌==◌, true, List, [], ◌∷◌, map, Some, is_some, nat_eq, length, slice_get, if◌then◌else◌}
 use Rattle.std.specs.List.{Contains, IsDistinct}
+use Rattle.micro_isa.specs.declared.limits.TheConstants.{MOST_FILE}
 use Rattle.micro_isa.specs.declared.program.Line.{Line}
 use Rattle.liveness.specs.Liveness.{LiveIn}
 use Rattle.liveness.specs.Sets.{Lists}
@@ -31,6 +32,6 @@ pub record IsValidRow (code : List Line) (p r i : ℕ) (row : PlanRow) : Type 0 
 -- the plan is valid: its sizes are in order, and it has a valid row for each instruction
 pub record IsValidPlan (code : List Line) (plan : Plan) : Type 0 where
   pub order : plan.p ≤ plan.r
-  pub few : plan.r ≤ 128
+  pub few : plan.r ≤ MOST_FILE
   pub one_each : length plan.rows ≡ length code
   pub rows : (i : ℕ) (row : PlanRow) → slice_get plan.rows i ≡ Some row → IsValidRow code plan.p plan.r i row

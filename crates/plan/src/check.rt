@@ -1,4 +1,5 @@
 ghost use Rattle.std.specs.Prelude.{ℕ, ◌≡◌, ◌<◌, ◌≤◌, ◌↔◌, length, slice_get, IsOk, IfErr};
+ghost use Rattle.micro_isa.specs.declared.limits.TheConstants.{MOST_FILE};
 ghost use Rattle.flow_graph.specs.Paths.{IsClosedCode};
 ghost use Rattle.liveness.specs.Lives.{IsLiveOf};
 ghost use Rattle.liveness.specs.Pressures.{IsPrivatePressure, IsTotalPressure};
@@ -50,7 +51,7 @@ fn check_rows(code: &[Line], live: &Live, rows: &[PlanRow], p: u32, r: u32) -> R
     requires closed { IsClosedCode code.now }
     requires live { IsLiveOf code.now live.now }
     requires one_each { length rows.now ≡ length code.now }
-    requires few { r ≤ 128 }
+    requires few { r ≤ MOST_FILE }
     ensures { AreRowsChecked code.now p r rows.now result }
 {
     'rows: for i in 0..rows.len() {
@@ -72,7 +73,7 @@ fn check_row(
     requires closed { IsClosedCode code.now }
     requires live { IsLiveOf code.now live.now }
     requires here { i < length code.now }
-    requires few { r ≤ 128 }
+    requires few { r ≤ MOST_FILE }
     ensures { IsRowChecked code.now p r i row.now result }
 {
     let places = row.places.as_slice();

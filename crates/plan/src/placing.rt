@@ -8,7 +8,10 @@ ghost use Rattle.plan.specs.Finding.{is_beyond, is_at, pair_or, lesser_place, Ri
 use crate::fault::PlanFault;
 use crate::row::Place;
 use liveness::{Live, crossing, has, survivors};
-use micro_isa::{Line, VReg, writes};
+use micro_isa::{Line, MOST_FILE, VReg, writes};
+
+/// Places of the file, by their numbers.
+const PLACES: usize = MOST_FILE as usize;
 
 /// Whether the places of the row of instruction `i` are in range, apart and private as they must be;
 /// else what is wrong first.
@@ -25,7 +28,7 @@ pub fn check_placing(
     requires closed { IsClosedCode code.now }
     requires live { IsLiveOf code.now live.now }
     requires here { i < length code.now }
-    requires few { r ≤ 128 }
+    requires few { r ≤ MOST_FILE }
     requires listing { IsListing code.now i places.now write }
     ensures { IsPlacingChecked code.now p r i places.now write result }
 {
@@ -143,11 +146,11 @@ fn lesser(listed: Option<Place>, written: Option<Place>) -> Option<Place>
 /// The first entry that has a later one at its place, and the first of these. One pass from the end:
 /// the later ones stand by their places.
 fn first_pair(places: &[Place]) -> Option<(Place, Place)>
-    requires low { All (λ q. q.place < 128) places.now }
+    requires low { All (λ q. q.place < MOST_FILE) places.now }
     requires rises { Rises places.now }
     ensures { IsPairChecked places.now result }
 {
-    let mut holders: [Option<Place>; 128] = [None; 128];
+    let mut holders: [Option<Place>; PLACES] = [None; PLACES];
     let mut pair = None;
     let mut at = places.len();
     'entries: while at > 0 {

@@ -3,36 +3,38 @@ ghost use Rattle.ports.specs.Tales.{Polls, Puts, Changes};
 ghost use Rattle.ports.specs.SlotsState.{has};
 
 use crate::port::{Given, Polled, Port};
+use micro_isa::MOST_PORTS;
 use std::marker::Model;
 
 /// The ports of a run, of which the number of each is its place, and which of them are retired: those
 /// stay as they are and are not used any more.
 pub struct Slots<P: Port> {
     ports: Vec<P>,
-    retired: [bool; 16],
+    retired: [bool; MOST_PORTS],
 }
 
 impl<P: Port> Model for Slots<P> {
     ghost use Rattle.std.specs.Prelude.{map, ◌≤◌, vec_len};
+    ghost use Rattle.micro_isa.specs.declared.limits.TheConstants.{MOST_PORTS};
     ghost use Rattle.ports.specs.SlotsState.{SlotsState};
 
     ghost Value = { SlotsState };
 
     ghost view = { λ s. record { told = map P.tells s.ports.items; retired = s.retired } };
 
-    ghost invariant = { λ s. vec_len s.ports ≤ 16 };
+    ghost invariant = { λ s. vec_len s.ports ≤ MOST_PORTS };
 }
 
 impl<P: Port> Slots<P> {
     /// These ports, by their numbers, with none retired.
     pub fn of(ports: Vec<P>) -> Slots<P>
-        requires { length ports.items ≤ 16 }
+        requires { length ports.items ≤ MOST_PORTS }
         ensures told { result.told ≡ map P.tells ports.items }
-        ensures retired { result.retired ≡ replicate 16 false }
+        ensures retired { result.retired ≡ replicate MOST_PORTS false }
     {
         Slots {
             ports,
-            retired: [false; 16],
+            retired: [false; MOST_PORTS],
         }
     }
 

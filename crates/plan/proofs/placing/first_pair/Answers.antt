@@ -1,5 +1,6 @@
 use Rattle.std.proofs.Common.{◌≡◌, arith, refl, drop, length, subst, None}
 use Rattle.std.proofs.lemmas.List.{drop_all, get_or-replicate}
+use Rattle.micro_isa.specs.declared.limits.TheConstants.{MOST_FILE}
 use Rattle.plan.specs.Finding.{pair_of}
 use Rattle.plan.proofs.Entries.{pair_first}
 use Rattle.plan.proofs.placing.first_pair.Goals as goal
@@ -10,7 +11,7 @@ entries-init c =
       inside = omega arith;
       size = refl;
       pair = rw none refl;
-      holders = λ x less. rw none (get_or-replicate 128 x None None less);
+      holders = λ x less. rw none (get_or-replicate MOST_FILE x None None less);
     }
 
 pub returns : goal.returns
