@@ -3,3 +3,4 @@ pub mod Stages
 pub mod Rising
 pub mod Once
 pub mod Valid
+pub mod Rooms

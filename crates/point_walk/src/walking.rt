@@ -1,7 +1,7 @@
-ghost use Rattle.std.specs.Prelude.{◌≡◌, ◌≤◌, IfOk, length};
+ghost use Rattle.std.specs.Prelude.{ℕ, ◌≡◌, ◌≤◌, IfOk, length};
 ghost use Rattle.flow_graph.specs.Paths.{IsClosedCode};
 ghost use Rattle.liveness.specs.Lives.{IsLiveOf};
-ghost use Rattle.liveness.specs.Pressures.{HasRoom};
+ghost use Rattle.liveness.specs.Pressures.{IsPrivatePressure, IsTotalPressure};
 ghost use Rattle.plan.specs.declared.row.Plan.{Plan as PlanModel};
 ghost use Rattle.plan.specs.ValidPlans.{IsValidPlan};
 ghost use Rattle.point_walk.specs.Walks.{IsWalk, AreWalked};
@@ -18,7 +18,8 @@ use std::alloc::Global;
 pub fn walk(alloc: Global, program: &Program, live: &Live, p: u32, r: u32) -> Result<Plan, NoMemory>
     requires closed { IsClosedCode program.now.code }
     requires live { IsLiveOf program.now.code live.now }
-    requires room { HasRoom program.now.code p r }
+    requires private { (n : ℕ) × IsPrivatePressure program.now.code n × (n ≤ p) }
+    requires total { (n : ℕ) × IsTotalPressure program.now.code n × (n ≤ r) }
     requires order { p ≤ r }
     requires few { r ≤ MOST_FILE }
     ensures walked { IfOk result (λ plan. IsWalk program.now.code p r plan) }
