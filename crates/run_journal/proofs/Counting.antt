@@ -4,6 +4,7 @@ use Rattle.std.specs.Prelude.{slice_get, slice_set, nat_le, ◌&&◌, if◌then�
 use Rattle.std.specs.List.{list_all}
 use Rattle.std.proofs.lemmas.Bool.{ltb-true, leb-true, and_parts}
 use Rattle.std.proofs.lemmas.List.{length-drop}
+use Rattle.micro_isa.specs.declared.limits.TheConstants.{MOST_RING}
 use Rattle.micro_isa.specs.declared.program.Channel.{Channel}
 use Rattle.micro_isa.specs.declared.program.Channel.TheVariants as channel
 use Rattle.micro_isa.specs.declared.program.Setting.{Setting}
@@ -143,7 +144,7 @@ opened_room : (ch : Channel) → has_formed_ring ch ≡ true → room_in (opened
 opened_room (channel.Inner capacity) h = omega arith
 opened_room (channel.Input words None) h = omega arith
 opened_room (channel.Input words (Some port)) h =
-    let l = leb-true port.capacity 1024 (and_parts (nat_le 1 port.capacity) (nat_le port.capacity 1024) h).1 in omega (arith, l)
+    let l = leb-true port.capacity MOST_RING (and_parts (nat_le 1 port.capacity) (nat_le port.capacity MOST_RING) h).1 in omega (arith, l)
 opened_room (channel.Output None) h = omega arith
 opened_room (channel.Output (Some port)) h = omega arith
 

@@ -3,6 +3,7 @@ use Rattle.std.proofs.Common.{◌≡◌, ℕ, zero, suc, ◌+◌, ◌*◌, ◌<�
 use Rattle.std.specs.Prelude.{slice_get, if◌then◌else◌, ◌||◌, ◌&&◌, nat_lt}
 use Rattle.std.specs.List.{list_all}
 use Rattle.std.proofs.lemmas.Bool.{lt-ltb, and_parts}
+use Rattle.micro_isa.specs.declared.limits.TheConstants.{MOST_STEPS}
 use Rattle.micro_isa.specs.Formed.{IsFormedImage}
 use Rattle.world.specs.declared.event.Event.{Event}
 use Rattle.world.specs.declared.event.Event.TheVariants.{Run, Feed, Unplug}
@@ -82,7 +83,7 @@ one_more a b c d most h l e = omega (arith, h, l, e)
 pub history_more : (e e' : EngineState) (es : List Entry) (x : Entry) (s : Seen) → IsHistory e es → e'.image ≡ e.image → bound_of e' ≡ bound_of e → step (machine_semantics e.image) (config_of e) (event_of x) ≡ Some (config_of e', s) → entry_seen x s ≡ x → entries_left e'.core + 1 ≤ entries_left e.core → IsHistory e' (es ++ x ∷ [])
 history_more e e' es x s h image bound did told left = record {
   formed = subst IsFormedImage (sym image) h.formed;
-  small = subst (λ b. b ≤ 1048576) (sym bound) h.small;
+  small = subst (λ b. b ≤ MOST_STEPS) (sym bound) h.small;
   legal = subst (λ m. LeadsTo (machine_semantics m) (machine_open m (bound_of e')) (es ++ x ∷ []) (config_of e')) (sym image)
       (subst (λ b. LeadsTo (machine_semantics e.image) (machine_open e.image b) (es ++ x ∷ []) (config_of e')) (sym bound)
       (leads_more (machine_semantics e.image) (machine_open e.image (bound_of e)) (config_of e) (config_of e') es x s h.legal did told));

@@ -4,6 +4,7 @@ use Rattle.std.specs.Prelude.{slice_get, slice_index_or, if◌then◌else◌, �
 use Rattle.std.specs.Option.{is_some}
 use Rattle.std.proofs.lemmas.Bool.{cases_eq, cases_lt, lt-ltb, ne_eqb}
 use Rattle.std.proofs.lemmas.Option.{same_Some, slice_get_within}
+use Rattle.micro_isa.specs.declared.limits.TheConstants.{MOST_CHANNELS, MOST_PORTS}
 use Rattle.micro_isa.specs.declared.program.Channel.{Channel}
 use Rattle.micro_isa.specs.declared.program.Channel.TheVariants as channel
 use Rattle.micro_isa.specs.declared.image.Image.{Image}
@@ -140,7 +141,7 @@ opens_on e es h none = sym (ap (λ (m : Config Machine). m.core.over) (opens_as 
 opening_plug : (e : EngineState) (es : List Entry) (k : ℕ) → IsHistory e es → es ≡ [] → is_plugged e.core.world k ≡ is_some (port_at (channels_of e) k)
 opening_plug e es k h none = sym (ap (λ (m : Config Machine). is_plugged m.core.world k) (opens_as e es h none)) ∙ opened_plugs (channels_of e) k
 
-no_port : (e : EngineState) (es : List Entry) (k : ℕ) (o : Option ℕ) → port_at (channels_of e) k ≡ o → IsHistory e es → 16 ≤ k → is_some o ≡ false
+no_port : (e : EngineState) (es : List Entry) (k : ℕ) (o : Option ℕ) → port_at (channels_of e) k ≡ o → IsHistory e es → MOST_CHANNELS ≤ k → is_some o ≡ false
 no_port e es k None q h le = refl
 no_port e es k (Some j) q h le = absurd (let lt = behind_within (channels_of e) k j q in let few = h.formed.setting.few in omega (arith, lt, few, le))
 
@@ -148,8 +149,8 @@ and_false : (p h : Bool) → p ≡ false → p ≡ (p && h)
 and_false true h e = absurd (cc)
 and_false false h e = refl
 
-all_done : (e e' : EngineState) (es es' : List Entry) (s : SlotsState) (k : ℕ) → IsHistory e es → es ≡ [] → AttachedTo e e' es es' s 16 → is_plugged e'.core.world k ≡ (is_some (port_at (channels_of e) k) && has_at s (port_at (channels_of e) k))
-all_done e e' es es' s k h none at = elim (cases_lt k 16) [
+all_done : (e e' : EngineState) (es es' : List Entry) (s : SlotsState) (k : ℕ) → IsHistory e es → es ≡ [] → AttachedTo e e' es es' s MOST_CHANNELS → is_plugged e'.core.world k ≡ (is_some (port_at (channels_of e) k) && has_at s (port_at (channels_of e) k))
+all_done e e' es es' s k h none at = elim (cases_lt k MOST_CHANNELS) [
   | inl lt ↦ (at.done k lt ∙ ap (λ p. p && has_at s (port_at (channels_of e) k)) (opening_plug e es k h none))
   | inr le ↦ (at.rest k le ∙ opening_plug e es k h none ∙ and_false (is_some (port_at (channels_of e) k)) (has_at s (port_at (channels_of e) k)) (no_port e es k (port_at (channels_of e) k) refl h le))
 ]
@@ -158,7 +159,7 @@ there_by : (s : SlotsState) (o : Option ℕ) → (is_some o && has_at s o) ≡ t
 there_by s None e = absurd (cc)
 there_by s (Some j) e = (j, refl, e)
 
-attached_fits : (e e' : EngineState) (es es' : List Entry) (s : SlotsState) → IsHistory e es → es ≡ [] → AttachedTo e e' es es' s 16 → Fits (channels_of e') e'.core.world s
+attached_fits : (e e' : EngineState) (es es' : List Entry) (s : SlotsState) → IsHistory e es → es ≡ [] → AttachedTo e e' es es' s MOST_CHANNELS → Fits (channels_of e') e'.core.world s
 attached_fits e e' es es' s h none at = subst (λ (m : Image). Fits m.setting.channels e'.core.world s) (sym at.went.image) (record {
   there = λ k p. there_by s (port_at (channels_of e) k) (sym (all_done e e' es es' s k h none at) ∙ p);
 })
@@ -196,10 +197,10 @@ never_retired zero j = refl
 never_retired (suc n) zero = refl
 never_retired (suc n) (suc j) = never_retired n j
 
-has_port : (s : SlotsState) (j : ℕ) (a : Told) → s.retired ≡ replicate 16 false → slice_get s.told j ≡ Some a → has s j ≡ true
-has_port s j a retired at = rw (lt-ltb j (length s.told) (slice_get_within s.told j a at), ap (λ l. slice_index_or l j false) retired ∙ never_retired 16 j) refl
+has_port : (s : SlotsState) (j : ℕ) (a : Told) → s.retired ≡ replicate MOST_PORTS false → slice_get s.told j ≡ Some a → has s j ≡ true
+has_port s j a retired at = rw (lt-ltb j (length s.told) (slice_get_within s.told j a at), ap (λ l. slice_index_or l j false) retired ∙ never_retired MOST_PORTS j) refl
 
-pub attached_fresh : (r r' : RunState) (s : SlotsState) → IsHistory r.engine r.entries → r.entries ≡ [] → AttachedTo r.engine r'.engine r.entries r'.entries s 16 → r'.idle ≡ 0 → IsFresh r' s
+pub attached_fresh : (r r' : RunState) (s : SlotsState) → IsHistory r.engine r.entries → r.entries ≡ [] → AttachedTo r.engine r'.engine r.entries r'.entries s MOST_CHANNELS → r'.idle ≡ 0 → IsFresh r' s
 attached_fresh r r' s h none at idle = record {
   fits = attached_fits r.engine r'.engine r.entries r'.entries s h none at;
   idle = idle;
@@ -209,17 +210,17 @@ attached_fresh r r' s h none at idle = record {
         let there : has_at s (port_at (channels_of r.engine) k) ≡ true = ap (has_at s) p ∙ has_port s j a retired sa in
         subst (λ x. Kept a x (used_by r'.entries r'.engine.core 0 k)) (same_Some a b (sym sa ∙ sb))
         (kept_start a (used_by r'.entries r'.engine.core 0 k)
-        (ap (fed_on k) own ∙ detached_fed (channels_of r.engine) r.engine.core.world s k 16)
+        (ap (fed_on k) own ∙ detached_fed (channels_of r.engine) r.engine.core.world s k MOST_CHANNELS)
         (ap (put_on k) (at.outputs ∙ sym (ap (λ (m : Config Machine). m.core.world.outputs) (opens_as r.engine r.entries h none))))
-        (ap (dropped_on k) own ∙ detached_drop (channels_of r.engine) r.engine.core.world s k 16 there)
+        (ap (dropped_on k) own ∙ detached_drop (channels_of r.engine) r.engine.core.world s k MOST_CHANNELS there)
         (all_done r.engine r'.engine r.entries r'.entries s k h none at ∙ ap (λ o. is_some o && has_at s o) p ∙ has_port s j a retired sa)
         refl);
     others = λ j no. refl;
   });
 }
   where
-    own : r'.entries ≡ detached (channels_of r.engine) r.engine.core.world s 16
-    own = at.went.entries ∙ ap (λ l. l ++ detached (channels_of r.engine) r.engine.core.world s 16) none
+    own : r'.entries ≡ detached (channels_of r.engine) r.engine.core.world s MOST_CHANNELS
+    own = at.went.entries ∙ ap (λ l. l ++ detached (channels_of r.engine) r.engine.core.world s MOST_CHANNELS) none
 
 -- what is plugged was so at the opening
 plug_happens : {X : Type 0} (rules : Semantics X) (m : Config X) (e : Event) (k : ℕ) → is_plugged (fire rules m e).0.core.world k ≡ true → is_plugged m.core.world k ≡ true
@@ -233,13 +234,13 @@ plug_leads rules m last (e ∷ es) k leads p =
     plug_happens rules m (event_of e) k
     (ap (λ q. is_plugged q.0.core.world k) (stepped rules m leads.0 (event_of e) leads.1 leads.2) ∙ plug_leads rules leads.0 last es k leads.4 p)
 
-plugged_few : (e : EngineState) (es : List Entry) (k : ℕ) → IsHistory e es → is_plugged e.core.world k ≡ true → k < 16
+plugged_few : (e : EngineState) (es : List Entry) (k : ℕ) → IsHistory e es → is_plugged e.core.world k ≡ true → k < MOST_CHANNELS
 plugged_few e es k h p = by (port_at (channels_of e) k) refl
   where
     opened : is_some (port_at (channels_of e) k) ≡ true
     opened = sym (opened_plugs (channels_of e) k) ∙ plug_leads (machine_semantics e.image) (machine_open e.image (bound_of e)) (config_of e) es k h.legal p
 
-    by : (o : Option ℕ) → port_at (channels_of e) k ≡ o → k < 16
+    by : (o : Option ℕ) → port_at (channels_of e) k ≡ o → k < MOST_CHANNELS
     by None q = absurd (let f : false ≡ true = sym (ap is_some q) ∙ opened in cc)
     by (Some j) q = let lt = behind_within (channels_of e) k j q in let few = h.formed.setting.few in omega (arith, lt, few)
 
@@ -264,7 +265,7 @@ served true true e q = refl
 served true false e q = absurd (cc)
 served false h e q = absurd (cc)
 
-pub all_there : (e : EngineState) (es : List Entry) (s : SlotsState) → IsHistory e es → NoneMissing (channels_of e) e.core.world s 16 → Fits (channels_of e) e.core.world s
+pub all_there : (e : EngineState) (es : List Entry) (s : SlotsState) → IsHistory e es → NoneMissing (channels_of e) e.core.world s MOST_CHANNELS → Fits (channels_of e) e.core.world s
 all_there e es s h none = record {
   there = λ k p. there_at s (port_at (channels_of e) k) (served (is_plugged e.core.world k) (has_at s (port_at (channels_of e) k)) (none.at k (plugged_few e es k h p)) p);
 }

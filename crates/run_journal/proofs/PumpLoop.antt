@@ -3,6 +3,7 @@ use Rattle.std.proofs.Common.{◌≡◌, ℕ, zero, suc, ◌+◌, ◌<◌, ◌�
 use Rattle.std.specs.Prelude.{slice_get, if◌then◌else◌, nat_lt, ◌==◌}
 use Rattle.std.specs.Option.{is_some, option_or}
 use Rattle.std.proofs.lemmas.Bool.{cases_lt, ltb-false, eqb-false}
+use Rattle.micro_isa.specs.declared.limits.TheConstants.{MOST_CHANNELS}
 use Rattle.micro_isa.specs.declared.program.Channel.{Channel}
 use Rattle.micro_isa.specs.declared.image.Image.{Image}
 use Rattle.world.specs.declared.event.Entry.{Entry}
@@ -82,7 +83,7 @@ behind_within [] k j h = absurd (cc)
 behind_within (ch ∷ chs) zero j h = omega arith
 behind_within (ch ∷ chs) (suc k) j h = omega (arith, behind_within chs k j h)
 
-none_fed : (e : EngineState) (es : List Entry) (s : SlotsState) (k : ℕ) → IsHistory e es → Fits (channels_of e) e.core.world s → 16 ≤ k → can_feed e.core.world k ≡ false
+none_fed : (e : EngineState) (es : List Entry) (s : SlotsState) (k : ℕ) → IsHistory e es → Fits (channels_of e) e.core.world s → MOST_CHANNELS ≤ k → can_feed e.core.world k ≡ false
 none_fed e es s k h fits le = by (can_feed e.core.world k) refl
   where
     by : (b : Bool) → can_feed e.core.world k ≡ b → b ≡ false
@@ -101,7 +102,7 @@ asked_as_fed rs [] h = none_asked rs h
 asked_as_fed [] (ch ∷ chs) h = let e : one_if (takes_feed ch) ≡ 0 = ap one_if (sym (h 0)) in let m = asked_as_fed [] chs (λ k. h (suc k)) in omega (arith, e, m)
 asked_as_fed (r ∷ rs) (ch ∷ chs) h = let e : one_if (is_some r) ≡ one_if (takes_feed ch) = ap one_if (h 0) in let m = asked_as_fed rs chs (λ k. h (suc k)) in omega (arith, e, m)
 
-pub pumped_all : (e e' : EngineState) (es es' : List Entry) (s s' : SlotsState) (p : Pumped) → IsHistory e es → Fits (channels_of e) e.core.world s → PumpedTo e e' es es' s s' p 16 → Pumps e e' es es' s s' p
+pub pumped_all : (e e' : EngineState) (es es' : List Entry) (s s' : SlotsState) (p : Pumped) → IsHistory e es → Fits (channels_of e) e.core.world s → PumpedTo e e' es es' s s' p MOST_CHANNELS → Pumps e e' es es' s s' p
 pumped_all e e' es es' s s' p h fits so = record {
   answers = so.answers;
   asked = each;
@@ -114,7 +115,7 @@ pumped_all e e' es es' s s' p h fits so = record {
 }
   where
     each : (k : ℕ) → is_some (answer_at so.answers k) ≡ can_feed e.core.world k
-    each k = elim (cases_lt k 16) [
+    each k = elim (cases_lt k MOST_CHANNELS) [
       | inl lt ↦ so.asks.asked k lt
       | inr le ↦ (ap is_some (no_answer so.answers k (omega (arith, so.asks.as_many, le))) ∙ sym (none_fed e es s k h fits le))
     ]
@@ -153,7 +154,7 @@ pub pumped_idle : (e e' : EngineState) (es es' : List Entry) (s s' : SlotsState)
 pumped_idle e e' es es' s s' p idle goes lt did = elim (idle_cases e.core p idle) [
   | inl z ↦ subst (IsIdle e'.core) (sym z) (idle_none e'.core)
   | inr q ↦ (
-      let same = still_core (channels_of e) e.core e'.core s.told s'.told did.answers 16 did.asks (sym did.fed_count ∙ q.1) (sym did.dropped_count ∙ q.2) in
+      let same = still_core (channels_of e) e.core e'.core s.told s'.told did.answers MOST_CHANNELS did.asks (sym did.fed_count ∙ q.1) (sym did.dropped_count ∙ q.2) in
       record {
         most = omega (arith, q.3, lt);
         none = λ pos. ap some_runnable same ∙ q.0;
@@ -166,7 +167,7 @@ pub pumped_keeps : (e e' : EngineState) (es es' : List Entry) (s s' : SlotsState
 pumped_keeps e e' es es' s s' p idle start did kept =
     subst (λ (m : Image). PortsKept m.setting.channels es' e'.core (idle_after e.core p idle) start s'.told) (sym did.went.image)
     (subst (λ l. PortsKept (channels_of e) l e'.core (idle_after e.core p idle) start s'.told) (sym did.went.entries)
-    (pump_keeps (channels_of e) e.core e'.core s.told s'.told did.answers 16 did.asks es idle (idle_after e.core p idle) did.asked count start kept))
+    (pump_keeps (channels_of e) e.core e'.core s.told s'.told did.answers MOST_CHANNELS did.asks es idle (idle_after e.core p idle) did.asked count start kept))
   where
     count : IdleAfter did.answers idle (idle_after e.core p idle)
     count = elim (idle_cases e.core p idle) [

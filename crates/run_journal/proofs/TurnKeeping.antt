@@ -1,5 +1,6 @@
 -- What a turn is answered, and that the run stays what its type keeps.
 use Rattle.std.proofs.Common.{◌≡◌, ℕ, ◌+◌, ◌^◌, ◌<◌, ◌≤◌, List, [], length, Some, None, true, false, refl, sym, ap, ◌∙◌, subst, arith}
+use Rattle.micro_isa.specs.declared.limits.TheConstants.{MOST_STEPS}
 use Rattle.micro_isa.specs.Formed.{IsFormedImage}
 use Rattle.micro_isa.specs.declared.image.Image.{Image}
 use Rattle.world.specs.declared.event.Event.TheVariants.{Run}
@@ -43,13 +44,13 @@ pub idle_none : (core : Core) → IsIdle core 0
 idle_none core = record { most = omega arith; none = λ lt. absurd (omega arith); goes = λ lt. absurd (omega arith) }
 
 -- the opening of a run
-pub opening_known : (e : EngineState) (image : Image) (bound : ℕ) → IsFormedImage image → bound ≤ 1048576 → e.image ≡ image → config_of e ≡ machine_open image bound → IsHistory e [] × (bound_of e ≡ bound)
+pub opening_known : (e : EngineState) (image : Image) (bound : ℕ) → IsFormedImage image → bound ≤ MOST_STEPS → e.image ≡ image → config_of e ≡ machine_open image bound → IsHistory e [] × (bound_of e ≡ bound)
 opening_known e image bound formed small same opens =
     let core = ap (λ (m : Config Machine). m.core) opens in
     let b : bound_of e ≡ bound = ap (λ (c : Core). c.world.bound) core in (
       record {
         formed = subst IsFormedImage (sym same) formed;
-        small = subst (λ n. n ≤ 1048576) (sym b) small;
+        small = subst (λ n. n ≤ MOST_STEPS) (sym b) small;
         legal = sym (opens ∙ ap (λ m. machine_open m bound) (sym same) ∙ ap (λ n. machine_open e.image n) (sym b));
         few = subst (λ (c : Core). 0 + entries_left c ≤ most_entries c.world.bound) (sym core) (omega (arith, opening_left image.setting (length image.contexts) bound formed.setting));
       },

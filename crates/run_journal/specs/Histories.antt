@@ -1,6 +1,7 @@
 -- A run and its journal.
 use Rattle.std.specs.Prelude.{◌≡◌, ℕ, ◌+◌, ◌<◌, ◌≤◌, List, length, Option, Some, None, Bool, true, false, if◌then◌else◌, ◌==◌}
 use Rattle.std.specs.Option.{option_or}
+use Rattle.micro_isa.specs.declared.limits.TheConstants.{MOST_STEPS}
 use Rattle.micro_isa.specs.Formed.{IsFormedImage}
 use Rattle.micro_isa.specs.declared.program.Channel.{Channel}
 use Rattle.world.specs.declared.event.Entry.{Entry}
@@ -29,7 +30,7 @@ channels_of e = e.image.setting.channels
 -- the engine is the replay of the entries from the opening of its image, and there is room for all that can come
 pub record IsHistory (e : EngineState) (es : List Entry) : Type 0 where
   pub formed : IsFormedImage e.image
-  pub small : bound_of e ≤ 1048576
+  pub small : bound_of e ≤ MOST_STEPS
   pub legal : LeadsTo (machine_semantics e.image) (machine_open e.image (bound_of e)) es (config_of e)
   pub few : length es + entries_left e.core ≤ most_entries (bound_of e)
 

@@ -5,6 +5,7 @@ use Rattle.world.specs.declared.event.Phase.TheVariants.{Receiving}
 use Rattle.world.specs.Channels.{ChannelState, has_plugged_port}
 use Rattle.world.specs.WorldState.{is_open_input}
 use Rattle.semantics.specs.Core.{Core, steps_left}
+use Rattle.run_journal.specs.declared.room.TheConstants.{ENTRIES_BESIDE}
 
 -- the sum of a number of each item
 abbrev pub total : {A : Type 0} → (A → ℕ) → List A → ℕ
@@ -26,6 +27,6 @@ abbrev pub entries_left : Core → ℕ
 entries_left core =
     if core.over then 0 else 1 + 2 * steps_left core + total room_in core.world.channels + total receives core.phases
 
--- the entries that a run under a bound can have
+-- the entries that a run under a bound can have: for each step a segment and the word that it makes room for, and those beside
 abbrev pub most_entries : ℕ → ℕ
-most_entries bound = 2 * bound + 16401
+most_entries bound = 2 * bound + ENTRIES_BESIDE

@@ -1,6 +1,7 @@
 -- What a turn and a pump did.
 use Rattle.std.specs.Prelude.{◌≡◌, ℕ, ◌+◌, ◌≤◌, List, length, Option, Some, None, Bool, true, false, ◌||◌, if◌then◌else◌, nat_lt, ◌*◌, ◌-◌, ◌<◌}
 use Rattle.std.specs.Option.{is_some}
+use Rattle.micro_isa.specs.declared.limits.TheConstants.{MOST_CHANNELS}
 use Rattle.world.specs.declared.event.Entry.{Entry}
 use Rattle.world.specs.declared.event.Entry.TheVariants as entry
 use Rattle.world.specs.declared.event.Event.TheVariants.{Run}
@@ -52,7 +53,7 @@ idle_after core p idle = if some_runnable core || nat_lt 0 p.fed || nat_lt 0 p.d
 pub record Pumps (e e' : EngineState) (es es' : List Entry) (s s' : SlotsState) (p : Pumped) : Type 0 where
   pub answers : List (Option Polled)
   pub asked : (k : ℕ) → is_some (answer_at answers k) ≡ can_feed e.core.world k
-  pub asks : Asks (channels_of e) e.core e'.core s.told s'.told answers 16
+  pub asks : Asks (channels_of e) e.core e'.core s.told s'.told answers MOST_CHANNELS
   pub went : Went e e' es es' (entries_from 0 answers)
   pub asked_count : p.asked ≡ asked_in answers
   pub fed_count : p.fed ≡ fed_in answers

@@ -8,12 +8,10 @@ ghost use Rattle.run_journal.specs.Attaching.{has_at, is_missing, Detaches, Atta
 
 use crate::parts::{port_at, unplug};
 use engine_core::Engine;
+use micro_isa::MOST_CHANNELS;
 use ports::{Port, Slots};
 use run_state::Interpreter;
 use world::Entry;
-
-/// A run has this many channels at most.
-const MOST_CHANNELS: u8 = 16;
 
 /// Unplugs each channel whose port is not there, in channel order.
 #[tactic(auto, using(crate::proofs::Openings::attached_none, crate::proofs::Openings::attached_more))]
@@ -21,10 +19,10 @@ pub(crate) fn attach<P: Port>(engine: &mut Engine, entries: &mut Vec<Entry>, slo
     requires known { IsHistory engine.old entries.old.items }
     requires room { most_entries (bound_of engine.old) ≤ vec_capacity entries.old }
     requires goes { engine.old.core.over ≡ false }
-    ensures attached { AttachedTo engine.old engine.new entries.old.items entries.new.items slots.now 16 }
+    ensures attached { AttachedTo engine.old engine.new entries.old.items entries.new.items slots.now MOST_CHANNELS }
     ensures capacity { vec_capacity entries.new ≡ vec_capacity entries.old }
 {
-    'channels: for channel in 0..MOST_CHANNELS {
+    'channels: for channel in 0..MOST_CHANNELS as u8 {
         detach_at(engine, entries, slots, channel);
     }
 }
@@ -50,7 +48,7 @@ pub(crate) fn fits<P: Port>(engine: &Engine, entries: &[Entry], slots: &Slots<P>
     ensures yes { result ≡ true → Fits (channels_of engine.now) engine.now.core.world slots.now }
     ensures not { result ≡ false → Fits (channels_of engine.now) engine.now.core.world slots.now → ⊥ }
 {
-    'channels: for channel in 0..MOST_CHANNELS {
+    'channels: for channel in 0..MOST_CHANNELS as u8 {
         if is_missing(engine, slots, channel) {
             return false;
         }

@@ -16,12 +16,10 @@ ghost use Rattle.run_journal.specs.Turns.{Pumps, PumpedTo, PumpDid, counted, idl
 use crate::answers::Pumped;
 use crate::parts::{feed, lose, port_at};
 use engine_core::Engine;
+use micro_isa::MOST_CHANNELS;
 use ports::{Polled, Port, Slots};
 use run_state::Interpreter;
 use world::{End, Entry};
-
-/// A run has this many channels at most.
-const MOST_CHANNELS: u8 = 16;
 
 /// After this many pumps in a row that did nothing a run is idle for good.
 const MOST_IDLE: u32 = 1000;
@@ -124,7 +122,7 @@ fn pump_ports<P: Port>(
         fed: 0,
         dropped: 0,
     };
-    'channels: for channel in 0..MOST_CHANNELS {
+    'channels: for channel in 0..MOST_CHANNELS as u8 {
         let answer = ask_at(engine, entries, slots, channel);
         pumped = counted(pumped, answer);
     }

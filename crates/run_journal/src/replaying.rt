@@ -1,6 +1,7 @@
 //! A journal that is followed entry by entry.
 
 ghost use Rattle.std.specs.Prelude.{◌≡◌, ◌≤◌, [], IfOk, IfErr};
+ghost use Rattle.micro_isa.specs.declared.limits.TheConstants.{MOST_STEPS};
 ghost use Rattle.micro_isa.specs.Formed.{IsFormedImage};
 ghost use Rattle.semantics.specs.Entries.{LeadsTo};
 ghost use Rattle.semantics.specs.Machine.{machine_semantics, machine_open};
@@ -43,7 +44,7 @@ pub fn replay(
     bound: u32,
 ) -> Result<Run, ReplayFault>
     requires formed { IsFormedImage image.now }
-    requires bound { bound ≤ 1048576 }
+    requires bound { bound ≤ MOST_STEPS }
     ensures replays { IfOk result (λ run. Replays run image.now bound entries.now) }
     ensures legal { IfOk result (λ run. LeadsTo (machine_semantics image.now) (machine_open image.now bound) entries.now (config_of run.engine)) }
     ensures strays { IfErr result (λ why. StraysBy why image.now bound entries.now) }
@@ -63,7 +64,7 @@ pub fn replay_of(
     bound: u32,
 ) -> Result<Run, ReplayFault>
     requires formed { IsFormedImage image }
-    requires bound { bound ≤ 1048576 }
+    requires bound { bound ≤ MOST_STEPS }
     ensures replays { IfOk result (λ run. Replays run image bound entries.now) }
     ensures legal { IfOk result (λ run. LeadsTo (machine_semantics image) (machine_open image bound) entries.now (config_of run.engine)) }
     ensures strays { IfErr result (λ why. StraysBy why image bound entries.now) }

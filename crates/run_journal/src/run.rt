@@ -1,4 +1,5 @@
 ghost use Rattle.std.specs.Prelude.{◌≡◌, ◌≤◌, IfOk, IfErr, OnOk, Some, [], List, length, ◌↔◌, IsTrue};
+ghost use Rattle.micro_isa.specs.declared.limits.TheConstants.{MOST_CHANNELS, MOST_STEPS};
 ghost use Rattle.micro_isa.specs.Formed.{IsFormedImage};
 ghost use Rattle.semantics.specs.Machine.{machine_semantics};
 ghost use Rattle.engine_core.specs.EngineState.{config_of};
@@ -12,6 +13,7 @@ ghost use Rattle.run_journal.specs.Turns.{turn_answer, TurnDid, PumpDid, TurnLow
 
 use crate::answers::{Pumped, TurnAnswer};
 use crate::replaying::ReplayFault;
+use crate::room::ENTRIES_BESIDE;
 use crate::{attaching, following, pumps, turns};
 use engine_core::Engine;
 use micro_isa::{Image, NoMemory};
@@ -46,7 +48,7 @@ impl Run {
     /// the image.
     pub fn open(alloc: Global, image: &Image, bound: u32) -> Result<Run, NoMemory>
         requires formed { IsFormedImage image.now }
-        requires bound { bound ≤ 1048576 }
+        requires bound { bound ≤ MOST_STEPS }
         ensures image { IfOk result (λ run. run.engine.image ≡ image.now) }
         ensures bound { IfOk result (λ run. bound_of run.engine ≡ bound) }
         ensures entries { IfOk result (λ run. run.entries ≡ []) }
@@ -62,14 +64,14 @@ impl Run {
     #[tactic(auto, using(crate::proofs::TurnKeeping::opening_known))]
     pub fn of(alloc: Global, image: Image, bound: u32) -> Result<Run, NoMemory>
         requires formed { IsFormedImage image }
-        requires bound { bound ≤ 1048576 }
+        requires bound { bound ≤ MOST_STEPS }
         ensures image { IfOk result (λ run. run.engine.image ≡ image) }
         ensures bound { IfOk result (λ run. bound_of run.engine ≡ bound) }
         ensures entries { IfOk result (λ run. run.entries ≡ []) }
         ensures idle { IfOk result (λ run. run.idle ≡ 0) }
     {
         let engine = Engine::of(alloc, image, bound)?;
-        match Vec::with_capacity(alloc, 2 * bound as usize + 16401) {
+        match Vec::with_capacity(alloc, 2 * bound as usize + ENTRIES_BESIDE) {
             Ok(entries) => Ok(Run {
                 engine,
                 entries,
@@ -107,7 +109,7 @@ impl Run {
     #[tactic(auto, using(crate::proofs::Openings::opens_on))]
     pub fn attach<P: Port>(&mut self, slots: &Slots<P>)
         requires { self.old.entries ≡ [] }
-        ensures entries { self.new.entries ≡ detached (channels_of self.old.engine) self.old.engine.core.world slots.now 16 }
+        ensures entries { self.new.entries ≡ detached (channels_of self.old.engine) self.old.engine.core.world slots.now MOST_CHANNELS }
         ensures fresh { IsFresh self.new slots.now }
         ensures image { self.new.engine.image ≡ self.old.engine.image }
         ensures bound { bound_of self.new.engine ≡ bound_of self.old.engine }
