@@ -7,6 +7,7 @@ use Rattle.std.proofs.lemmas.Option.{same_Some}
 use Rattle.std.proofs.lemmas.List.{append-nil, append_assoc}
 use Rattle.std.proofs.lemmas.List.Folds.{find-append}
 use Rattle.std.specs.Option.{option_or}
+use Rattle.micro_isa.specs.declared.limits.TheConstants.{MOST_CONTEXTS}
 use Rattle.world.specs.declared.event.Phase.{Phase}
 use Rattle.world.specs.declared.event.Event.TheVariants.{Run}
 use Rattle.world.specs.declared.event.Seen.TheVariants as seen
@@ -167,7 +168,7 @@ no_turn_yet rules before opening closed = record {
 }
 
 -- a turn adds its entry to the journal
-pub turn_more : {X : Type 0} (rules : Semantics X) (before now after : Config X) (opening entries : List Entry) (last : Option ℕ) (c : ℕ) (e : Entry) → IsRunSoFar rules before now opening entries last → next_in_round now.core last ≡ Some c → GoesOn now.core after.core → IsTurn rules now after e → RanAs c e → c < 8 → IsRunSoFar rules before after opening (entries ++ e ∷ []) (Some c)
+pub turn_more : {X : Type 0} (rules : Semantics X) (before now after : Config X) (opening entries : List Entry) (last : Option ℕ) (c : ℕ) (e : Entry) → IsRunSoFar rules before now opening entries last → next_in_round now.core last ≡ Some c → GoesOn now.core after.core → IsTurn rules now after e → RanAs c e → c < MOST_CONTEXTS → IsRunSoFar rules before after opening (entries ++ e ∷ []) (Some c)
 turn_more rules before now after opening entries last c e so next goes turn ran low = record {
   closed = goes.inputs ∙ so.closed;
   on = λ first legal order none. let given = so.on first legal order none in (
@@ -175,7 +176,7 @@ turn_more rules before now after opening entries last c e so next goes turn ran 
     order_more rules first now first_round entries e given.0 given.1 (keeps none),
   );
   latest = λ none. round_of-append first_round entries e ∙ ap (round_after (round_of first_round entries)) ran.2;
-  small = λ x is. subst (λ y. y < 8) (same_Some c x is) low;
+  small = λ x is. subst (λ y. y < MOST_CONTEXTS) (same_Some c x is) low;
   rest = so.rest ++ e ∷ [];
   begins = ap (λ l. l ++ e ∷ []) so.begins ∙ append_assoc opening so.rest (e ∷ []);
 }

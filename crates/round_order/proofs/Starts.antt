@@ -1,6 +1,7 @@
 -- What an opening is: no segment was cut, and the channels are few.
 use Rattle.std.proofs.Common.{◌≡◌, ℕ, ◌≤◌, length, refl, sym, ap, subst}
 use Rattle.std.proofs.lemmas.List.{length-map}
+use Rattle.micro_isa.specs.declared.limits.TheConstants.{MOST_CHANNELS}
 use Rattle.micro_isa.specs.declared.program.Setting.{Setting}
 use Rattle.micro_isa.specs.declared.program.Bundle.{Bundle}
 use Rattle.micro_isa.specs.declared.image.Image.{Image}
@@ -10,12 +11,12 @@ use Rattle.semantics.specs.Core.{opening_core}
 use Rattle.semantics.specs.Events.{Config}
 use Rattle.semantics.specs.Machine.{Machine, machine_open}
 use Rattle.semantics.specs.Source.{Contexts, source_open}
-use Rattle.round_order.specs.Openings.{most_channels, IsOpening}
+use Rattle.round_order.specs.Openings.{IsOpening}
 
 pub opening_is : (s : Setting) (contexts bound : ℕ) → IsFormedSetting s → IsOpening (opening_core s contexts bound)
 opening_is s contexts bound formed = record {
   goes = refl;
-  few = subst (λ n. n ≤ most_channels) (sym (length-map s.channels opened_channel)) formed.few;
+  few = subst (λ n. n ≤ MOST_CHANNELS) (sym (length-map s.channels opened_channel)) formed.few;
 }
 
 -- the opening of a formed image

@@ -4,6 +4,7 @@ use Rattle.std.specs.Prelude.{slice_get, ◌||◌, ◌&&◌, if◌then◌else◌
 use Rattle.std.specs.List.{list_any}
 use Rattle.std.proofs.lemmas.Bool.{cases_eq, cases_lt}
 use Rattle.std.proofs.lemmas.List.{append-nil}
+use Rattle.micro_isa.specs.declared.limits.TheConstants.{MOST_CHANNELS}
 use Rattle.world.specs.declared.event.Event.TheVariants.{Unplug}
 use Rattle.world.specs.declared.event.Seen.TheVariants as seen
 use Rattle.world.specs.declared.event.Entry.{Entry}
@@ -16,7 +17,7 @@ use Rattle.semantics.specs.Events.{Semantics, Config, step}
 use Rattle.semantics.specs.Entries.{LeadsTo}
 use Rattle.semantics.specs.Rounds.{first_round, round_after, round_of, AsksInOrder, InRoundOrder}
 use Rattle.semantics.proofs.Histories.{stepped, leads_more, leads_run, order_more, round_of-append}
-use Rattle.round_order.specs.Openings.{unplugs, unplugs_below, most_channels, IsOpening, IsUnplugged}
+use Rattle.round_order.specs.Openings.{unplugs, unplugs_below, IsOpening, IsUnplugged}
 use Rattle.round_order.specs.Journals.{UnpluggedBy, UnpluggedAt, IsOpened, IsJournalOn}
 use Rattle.round_order.specs.RoundRuns.{IsRoundRun}
 
@@ -59,7 +60,7 @@ at_start core opening = record {
 one_more : (w : WorldState) (k : ℕ) (now after : Core) → IsUnplugged w k now → after ≡ record now { world = after_unplug now.world k } → IsUnplugged w (suc k) after
 one_more w k now after so is = subst (IsUnplugged w (suc k)) (sym is) (record {
   goes = so.goes;
-  few = subst (λ n. n ≤ most_channels) (sym (length_stays now.world.channels k)) so.few;
+  few = subst (λ n. n ≤ MOST_CHANNELS) (sym (length_stays now.world.channels k)) so.few;
   closed = λ j lt. elim (cases_eq j k) [
     | inl e ↦ ap (is_plugged (after_unplug now.world k)) e ∙ plug_goes now.world.channels k
     | inr ne ↦ other_stays has_plugged_port now.world.channels k j ne ∙ so.closed j (omega (arith, lt, ne))
@@ -109,7 +110,7 @@ all_unplugs w n le =
     ap (unplugs_below w) e ∙ none_behind w (n - length w.channels)
 
 -- the opening's unplugging and the turns behind it are one run
-pub whole_run : {X : Type 0} (rules : Semantics X) (before middle after : Config X) (opening entries : List Entry) (end : End) → IsOpening before.core → IsOpened rules before most_channels middle opening → IsJournalOn rules middle after opening entries end → IsRoundRun rules before after entries end
+pub whole_run : {X : Type 0} (rules : Semantics X) (before middle after : Config X) (opening entries : List Entry) (end : End) → IsOpening before.core → IsOpened rules before MOST_CHANNELS middle opening → IsJournalOn rules middle after opening entries end → IsRoundRun rules before after entries end
 whole_run rules before middle after opening entries end begins opened on =
     let whole = on.on before opened.legal opened.order opened.none in
     let ran = leads_run rules before after entries whole.0 in
@@ -118,16 +119,16 @@ whole_run rules before middle after opening entries end begins opened on =
       seen = ran.0;
       ran = ran.1;
       rest = on.rest;
-      begins = on.begins ∙ ap (λ l. l ++ on.rest) (opened.told ∙ all_unplugs before.core.world most_channels begins.few);
+      begins = on.begins ∙ ap (λ l. l ++ on.rest) (opened.told ∙ all_unplugs before.core.world MOST_CHANNELS begins.few);
       order = whole.1;
       ended = on.ended;
     }
 
 -- where each port was unplugged, no word comes from outside
-pub all_closed : (w : WorldState) (now : Core) → IsUnplugged w most_channels now → has_open_input now.world ≡ false
-all_closed w now so = no_plug now.world.channels (λ j. elim (cases_lt j most_channels) [
+pub all_closed : (w : WorldState) (now : Core) → IsUnplugged w MOST_CHANNELS now → has_open_input now.world ≡ false
+all_closed w now so = no_plug now.world.channels (λ j. elim (cases_lt j MOST_CHANNELS) [
   | inl lt ↦ so.closed j lt
-  | inr le ↦ past_all now.world.channels most_channels j so.few le
+  | inr le ↦ past_all now.world.channels MOST_CHANNELS j so.few le
 ])
 
 pub was_unplugged : {X : Type 0} (rules : Semantics X) (before after : Config X) (k : ℕ) (es es' : List Entry) → is_plugged before.core.world k ≡ true → step rules before (Unplug k) ≡ Some (after, seen.Unplugged) → es' ≡ es ++ Unplugged k ∷ [] → UnpluggedAt rules before after k es es'

@@ -1,6 +1,7 @@
 -- What the journal of a run in round order has come to, turn by turn.
 use Rattle.std.specs.Prelude.{◌≡◌, ℕ, ◌<◌, List, [], ◌∷◌, ◌++◌, Bool, true, false, Option, Some, None}
 use Rattle.std.specs.Option.{ForSome}
+use Rattle.micro_isa.specs.declared.limits.TheConstants.{MOST_CONTEXTS}
 use Rattle.world.specs.declared.event.Event.TheVariants.{Unplug}
 use Rattle.world.specs.declared.event.Entry.{Entry}
 use Rattle.world.specs.declared.event.Entry.TheVariants.{Ran, Unplugged}
@@ -48,7 +49,7 @@ pub record IsRunSoFar {X : Type 0} (rules : Semantics X) (before now : Config X)
   pub closed : has_open_input now.core.world ≡ false
   pub on : GoesOnTo rules before now opening entries
   pub latest : round_of first_round opening ≡ first_round → round_of first_round entries ≡ record { last = last; pump = None }
-  pub small : ForSome last (λ c. c < 8)
+  pub small : ForSome last (λ c. c < MOST_CONTEXTS)
   pub rest : List Entry
   pub begins : entries ≡ opening ++ rest
 

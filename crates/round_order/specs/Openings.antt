@@ -1,13 +1,10 @@
 -- How a run begins: the ports are unplugged, in channel order.
 use Rattle.std.specs.Prelude.{◌≡◌, ℕ, zero, suc, ◌<◌, ◌≤◌, List, [], ◌∷◌, ◌++◌, length, false, if◌then◌else◌}
+use Rattle.micro_isa.specs.declared.limits.TheConstants.{MOST_CHANNELS}
 use Rattle.world.specs.declared.event.Entry.{Entry}
 use Rattle.world.specs.declared.event.Entry.TheVariants.{Unplugged}
 use Rattle.world.specs.WorldState.{WorldState, is_plugged}
 use Rattle.semantics.specs.Core.{Core}
-
--- a run has this many channels at most
-abbrev pub most_channels : ℕ
-most_channels = 16
 
 -- one entry for each channel below `k` whose port is plugged, in channel order
 abbrev pub unplugs_below : WorldState → ℕ → List Entry
@@ -20,11 +17,11 @@ unplugs w = unplugs_below w (length w.channels)
 -- no segment was cut, and the channels are few
 pub record IsOpening (core : Core) : Type 0 where
   pub goes : core.over ≡ false
-  pub few : length core.world.channels ≤ most_channels
+  pub few : length core.world.channels ≤ MOST_CHANNELS
 
 -- the ports below `k` are unplugged, and the others are as they were
 pub record IsUnplugged (w : WorldState) (k : ℕ) (now : Core) : Type 0 where
   pub goes : now.over ≡ false
-  pub few : length now.world.channels ≤ most_channels
+  pub few : length now.world.channels ≤ MOST_CHANNELS
   pub closed : (j : ℕ) → j < k → is_plugged now.world j ≡ false
   pub rest : (j : ℕ) → k ≤ j → is_plugged now.world j ≡ is_plugged w j

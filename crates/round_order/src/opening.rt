@@ -2,25 +2,22 @@
 
 ghost use Rattle.std.specs.Prelude.{◌≡◌, ◌+◌, ◌<◌, IfOk, OnOk, [], ◌∷◌, ◌++◌, None, true, false};
 ghost use Rattle.world.specs.WorldState.{is_plugged};
-ghost use Rattle.round_order.specs.Openings.{IsOpening, most_channels};
+ghost use Rattle.round_order.specs.Openings.{IsOpening};
 ghost use Rattle.round_order.specs.Journals.{IsOpened, UnpluggedAt};
 
-use micro_isa::NoMemory;
+use micro_isa::{MOST_CHANNELS, NoMemory};
 use run_state::Interpreter;
 use std::alloc::Global;
 use world::Entry;
-
-/// A run has this many channels at most.
-const MOST_CHANNELS: u8 = 16;
 
 /// Unplugs each port that is plugged, in channel order, and tells it.
 pub(crate) fn unplug_all<I: Interpreter>(alloc: Global, run: &mut I) -> Result<Vec<Entry>, NoMemory>
     requires { IsOpening (I.config run.old).core }
     ensures rules { I.rules run.new ≡ I.rules run.old }
-    ensures opened { IfOk result (λ entries. IsOpened (I.rules run.old) (I.config run.old) most_channels (I.config run.new) entries.items) }
+    ensures opened { IfOk result (λ entries. IsOpened (I.rules run.old) (I.config run.old) MOST_CHANNELS (I.config run.new) entries.items) }
 {
     let mut entries = Vec::new(alloc);
-    'channels: for channel in 0..MOST_CHANNELS {
+    'channels: for channel in 0..MOST_CHANNELS as u8 {
         unplug_at(&mut entries, run, channel)?;
     }
     Ok(entries)

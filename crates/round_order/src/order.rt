@@ -3,6 +3,7 @@
 ghost use Rattle.std.specs.Prelude.{◌≡◌, ◌+◌, ◌-◌, ◌<◌, ◌∷◌, ◌++◌, IfOk, OnOk, IfSome, None, Some, false, find, length};
 ghost use Rattle.std.specs.List.{range_with_len};
 ghost use Rattle.std.specs.Option.{ForSome};
+ghost use Rattle.micro_isa.specs.declared.limits.TheConstants.{MOST_CONTEXTS};
 ghost use Rattle.world.specs.WorldState.{has_open_input};
 ghost use Rattle.world.specs.declared.event.Event.TheVariants.{Run as RunOf};
 ghost use Rattle.semantics.specs.Core.{illegal_of, is_runnable, ending_of};
@@ -77,12 +78,12 @@ fn turn<I: Interpreter>(run: &mut I, context: u32) -> Entry
 /// The context whose turn is next.
 #[tactic(auto, using(crate::proofs::Rounds::somebody_next, crate::proofs::Rounds::next_is_legal))]
 fn next_context<I: Interpreter>(run: &I, last: Option<u32>) -> u32
-    requires small { ForSome last (λ c. c < 8) }
+    requires small { ForSome last (λ c. c < MOST_CONTEXTS) }
     requires goes_on { ending_of (I.config run.now).core ≡ None }
     requires closed { has_open_input (I.config run.now).core.world ≡ false }
     ensures next { next_in_round (I.config run.now).core last ≡ Some result }
     ensures legal { illegal_of (I.config run.now).core (RunOf result) ≡ None }
-    ensures small { result < 8 }
+    ensures small { result < MOST_CONTEXTS }
 {
     match next_in_round(run, last) {
         Some(context) => context,
@@ -92,9 +93,9 @@ fn next_context<I: Interpreter>(run: &I, last: Option<u32>) -> u32
 
 /// The first runnable context behind the last one that ran, in cyclic order.
 fn next_in_round<I: Interpreter>(run: &I, last: Option<u32>) -> Option<u32>
-    requires { ForSome last (λ c. c < 8) }
+    requires { ForSome last (λ c. c < MOST_CONTEXTS) }
     ensures next { result ≡ next_in_round (I.config run.now).core last }
-    ensures small { IfSome result (λ c. c < 8) }
+    ensures small { IfSome result (λ c. c < MOST_CONTEXTS) }
 {
     match last {
         None => first_runnable(run, 0, run.contexts()),
@@ -103,9 +104,9 @@ fn next_in_round<I: Interpreter>(run: &I, last: Option<u32>) -> Option<u32>
 }
 
 fn next_behind<I: Interpreter>(run: &I, last: u32) -> Option<u32>
-    requires { last < 8 }
+    requires { last < MOST_CONTEXTS }
     ensures next { result ≡ next_in_round (I.config run.now).core (Some last) }
-    ensures small { IfSome result (λ c. c < 8) }
+    ensures small { IfSome result (λ c. c < MOST_CONTEXTS) }
 {
     match first_runnable(run, last + 1, run.contexts()) {
         Some(context) => Some(context),

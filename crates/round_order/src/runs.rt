@@ -1,4 +1,5 @@
 ghost use Rattle.std.specs.Prelude.{◌≡◌, ◌≤◌, IfOk};
+ghost use Rattle.micro_isa.specs.declared.limits.TheConstants.{MOST_STEPS};
 ghost use Rattle.micro_isa.specs.Formed.{IsFormedBundle, IsFormedImage};
 ghost use Rattle.semantics.specs.Machine.{machine_semantics, machine_open};
 ghost use Rattle.semantics.specs.Source.{source_semantics, source_open};
@@ -33,7 +34,7 @@ pub struct SourceRounds {
 /// hand: the ports are unplugged first, in channel order, and then the contexts run in round order.
 pub fn run_engine(alloc: Global, image: &Image, bound: u32) -> Result<EngineRun, NoMemory>
     requires formed { IsFormedImage image.now }
-    requires bound { bound ≤ 1048576 }
+    requires bound { bound ≤ MOST_STEPS }
     ensures { IfOk result (λ run. IsRoundRun (machine_semantics image.now) (machine_open image.now bound) (engine_moment run.engine) run.entries.items run.end) }
 {
     let mut engine = Engine::open(alloc, image, bound)?;
@@ -48,7 +49,7 @@ pub fn run_engine(alloc: Global, image: &Image, bound: u32) -> Result<EngineRun,
 /// Runs a formed bundle in the same way, with unbounded private registers for each context.
 pub fn run_source(alloc: Global, bundle: &Bundle, bound: u32) -> Result<SourceRounds, NoMemory>
     requires formed { IsFormedBundle bundle.now }
-    requires bound { bound ≤ 1048576 }
+    requires bound { bound ≤ MOST_STEPS }
     ensures { IfOk result (λ run. IsRoundRun (source_semantics bundle.now) (source_open bundle.now bound) (source_moment run.source) run.entries.items run.end) }
 {
     let mut source = SourceRun::open(alloc, bundle, bound)?;
