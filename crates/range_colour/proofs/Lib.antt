@@ -6,3 +6,5 @@ pub mod Placing
 pub mod Sizing
 pub mod Valid
 pub mod Planning
+pub mod Grouping
+pub mod Unique

@@ -19,17 +19,17 @@ use Rattle.range_colour.specs.PlacedPlans.{Fits, IsFitOf, IsPlacedBy, IsPlacedRo
 use Rattle.range_colour.proofs.Sizing.{below_all, places_apart}
 
 -- members of a list with one item in front
-first_or_behind : {X : Type 0} → (x : X) (xs : List X) (y : X) → Contains (x ∷ xs) y → (x ≡ y) ⊎ Contains xs y
+pub first_or_behind : {X : Type 0} → (x : X) (xs : List X) (y : X) → Contains (x ∷ xs) y → (x ≡ y) ⊎ Contains xs y
 first_or_behind x xs y has = go has.0 has.1 has.2
   where
     go : (k : ℕ) → k < length (x ∷ xs) → get_or (x ∷ xs) k y ≡ y → (x ≡ y) ⊎ Contains xs y
     go zero less is = inl is
     go (suc k) less is = inr (k, omega arith, is)
 
-is_first : {X : Type 0} → (x : X) (xs : List X) → Contains (x ∷ xs) x
+pub is_first : {X : Type 0} → (x : X) (xs : List X) → Contains (x ∷ xs) x
 is_first x xs = (0, omega arith, refl)
 
-is_behind : {X : Type 0} → (x : X) (xs : List X) (y : X) → Contains xs y → Contains (x ∷ xs) y
+pub is_behind : {X : Type 0} → (x : X) (xs : List X) (y : X) → Contains xs y → Contains (x ∷ xs) y
 is_behind x xs y has = (suc has.0, let less = has.1 in omega arith, has.2)
 
 has_register : (places : List Place) (q : Place) → Contains places q → Contains (registers_of places) q.register.0

@@ -3,3 +3,4 @@ pub mod Groups
 pub mod PlacedPlans
 pub mod Settling
 pub mod Fits
+pub mod Regional

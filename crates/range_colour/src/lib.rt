@@ -4,8 +4,10 @@
 mod colour;
 mod fit;
 mod group;
+mod region;
 mod rows;
 mod whole;
 
 pub use fit::Fit;
+pub use region::{by_region, region_fits};
 pub use whole::{first_fit, whole_fit};

@@ -1,4 +1,4 @@
-ghost use Rattle.std.specs.Prelude.{ℕ, ◌≡◌, ◌<◌, ◌≤◌, length, slice_index, IfOk, IfSome, vec_len};
+ghost use Rattle.std.specs.Prelude.{ℕ, ◌≡◌, ◌<◌, ◌≤◌, length, slice_index, IfOk, IfSome, Option, vec_len};
 ghost use Rattle.flow_graph.specs.Paths.{Edge, IsClosedCode};
 ghost use Rattle.liveness.specs.Lives.{IsLiveOf};
 ghost use Rattle.plan.specs.ValidPlans.{IsValidPlan};
@@ -29,6 +29,7 @@ pub fn first_fit(
     ensures fit { IfOk result (IsWholeFit program.now.code p r) }
     ensures valid { IfOk result (λ found. IfSome found (IsValidPlan program.now.code)) }
     ensures still { IfOk result (λ found. IfSome found (λ plan. (i j : ℕ) → Edge program.now.code i j → MovesNothing program.now.code plan i j)) }
+    ensures once { (x y : Option Plan) → IsWholeFit program.now.code p r x → IsWholeFit program.now.code p r y → x ≡ y }
 {
     whole_plan(alloc, program.code.as_slice(), live, p, r)
 }
