@@ -1,5 +1,5 @@
 -- What the tests of a line say where none is met, by their kinds.
-use Rattle.std.proofs.Common.{◌≡◌, ◌||◌, ◌&&◌, Bool, false, not, List, length, None, nat_lt, nat_eq}
+use Rattle.std.proofs.Common.{◌≡◌, ◌||◌, ◌&&◌, Bool, false, not, length, None, nat_lt, nat_eq}
 use Rattle.std.specs.List.{list_any}
 use Rattle.micro_isa.specs.declared.limits.TheConstants.{MOST_REGISTERS, MOST_INSTRUCTIONS}
 use Rattle.asm_lines.specs.Numbers.{is_no_number}
