@@ -1,0 +1,122 @@
+ghost use Rattle.std.specs.Prelude.{◌<◌, ◌≤◌, length, IfOk};
+ghost use Rattle.micro_isa.specs.Formed.{IsFormedBundle};
+ghost use Rattle.flow_graph.specs.Paths.{IsClosedCode};
+
+use asm_text::read_bundle;
+use flow_graph::Flow;
+use liveness::Live;
+use micro_isa::{Bundle, Program};
+use plan::{Plan, check_plan};
+use point_walk::walk;
+use pressure::pressures;
+use std::alloc::Global;
+use std::test::Fail;
+
+/// Two edges that leave a branch for one target.
+pub(crate) const SPLIT: &[u8] =
+    b"file 3\noutput out\ncontext a\nli x, 5\nyield\nli y, 9\nbeq x, y, next\nnext:\nyield\nsend out, y\nhalt\n";
+
+/// An instruction that no path reaches.
+const UNREACHABLE: &[u8] =
+    b"file 4\noutput out\ncontext a\nli x, 1\njmp end\nadd y, x, x\nend:\nsend out, x\nhalt\n";
+
+/// A loop to the first instruction.
+const LOOP: &[u8] = b"file 4\ncontext a\nagain:\nadd x, x, y\nyield\njmp again\n";
+
+const MEAN: &[u8] =
+    b"file 8\noutput tx\ncontext mean\nli bytes, 1500\ndiv mean, bytes, packets\nsend tx, mean\nhalt\ncontext beacon\nli word, 7\nsend tx, word\nhalt\n";
+
+const FRAME: &[u8] =
+    b"file 4\noutput tx\ncontext length\nli header, 14\nli payload, 46\nli trailer, 4\nadd length, header, payload\nadd length, length, trailer\nsend tx, length\nhalt\n";
+
+const HANDOFF: &[u8] =
+    b"file 16\nmemory 4\ninput rx\nwords rx 0x4500 0x0054\ninner ring 2\noutput tx\ncontext receiver\nli left, 4\nli one, 1\nnext:\nrecv word, rx\nsend ring, word\nsub left, left, one\nbne left, zero, next\nhalt\ncontext transmitter\nli left, 4\nli one, 1\nli place, 2\nnext:\nrecv word, ring\nload seen, place\nadd seen, seen, one\nstore place, seen\nsend tx, word\nsub left, left, one\nbne left, zero, next\nhalt\n";
+
+pub(crate) fn bundle_of(alloc: Global, text: &[u8]) -> Result<Bundle, Fail>
+    requires { length text.now ≤ 2097152 }
+    ensures { IfOk result IsFormedBundle }
+{
+    match read_bundle(alloc, text) {
+        Ok(bundle) => Ok(bundle),
+        Err(_) => Err("a text without a fault".into()),
+    }
+}
+
+/// The walk of a program at sizes so much above its pressures; `check_plan` must accept it.
+fn walk_of(alloc: Global, program: &Program, more: (u8, u8)) -> Result<Plan, Fail>
+    requires { IsClosedCode program.now.code }
+{
+    let flow = Flow::of(alloc, program)?;
+    let live = Live::of(alloc, program, &flow)?;
+    let least = pressures(program, &live);
+    let p = least.private + u32::from(more.0);
+    let r = least.all + u32::from(more.1);
+    if r < p || 128 < r {
+        return Err("sizes that a plan can have".into());
+    }
+    let plan = walk(alloc, program, &live, p, r)?;
+    match check_plan(program, &live, &plan) {
+        Ok(()) => Ok(plan),
+        Err(_) => Err("a valid plan".into()),
+    }
+}
+
+/// The walk of context `c`.
+fn walk_in(alloc: Global, text: &[u8], c: usize, more: (u8, u8)) -> Result<Plan, Fail>
+    requires { length text.now ≤ 2097152 }
+{
+    let bundle = bundle_of(alloc, text)?;
+    let programs = bundle.programs.as_slice();
+    if programs.len() <= c {
+        return Err("a context of this number".into());
+    }
+    walk_of(alloc, &programs[c], more)
+}
+
+/// The rows of a plan: `register@place` for each entry, `>place` for a write, a `;` behind each row.
+fn shown(alloc: Global, plan: &Plan) -> Result<String, Fail> {
+    let mut text = String::new(alloc);
+    for row in plan.rows.as_slice() {
+        for entry in row.places.as_slice() {
+            text.push_str(format!(in alloc; "{}@{} ", entry.register.0, entry.place)?.as_str())?;
+        }
+        if let Some(place) = row.write {
+            text.push_str(format!(in alloc; ">{}", place)?.as_str())?;
+        }
+        text.push(';')?;
+    }
+    Ok(text)
+}
+
+#[test]
+fn walks_of_known_programs(rt: HostRuntime) -> Result<(), Fail> {
+    let rows = [
+        (SPLIT, (0, 0), ">0;0@0 ;0@0 >1;0@0 1@1 ;1@0 ;1@0 ;;"),
+        (SPLIT, (1, 1), ">0;0@0 ;0@0 >1;0@0 1@1 ;1@1 ;1@1 ;;"),
+        (SPLIT, (0, 1), ">0;0@0 ;0@0 >1;0@0 1@1 ;1@0 ;1@0 ;;"),
+        (UNREACHABLE, (0, 0), ">0;0@0 ;0@0 >1;0@0 ;;"),
+        (LOOP, (0, 0), "0@0 1@1 >0;0@0 1@1 ;0@0 1@1 ;"),
+    ];
+    for (text, more, want) in &rows {
+        let plan = walk_in(rt.alloc(), text, 0, *more)?;
+        let told = shown(rt.alloc(), &plan)?;
+        assert_eq!(rt; told.as_str(), *want);
+    }
+    Ok(())
+}
+
+#[test]
+fn examples_have_valid_walks(rt: HostRuntime) -> Result<(), Fail> {
+    let rows = [
+        (MEAN, 0, 4),
+        (MEAN, 1, 3),
+        (FRAME, 0, 7),
+        (HANDOFF, 0, 7),
+        (HANDOFF, 1, 11),
+    ];
+    for (text, c, length) in &rows {
+        let plan = walk_in(rt.alloc(), text, *c, (0, 0))?;
+        assert_eq!(rt; plan.rows.len(), *length);
+    }
+    Ok(())
+}
