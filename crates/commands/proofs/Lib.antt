@@ -1,3 +1,4 @@
 pub mod Reporting
 pub mod Telling
 pub mod Worked
+pub mod Replaying

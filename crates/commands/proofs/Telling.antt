@@ -23,11 +23,11 @@ use Rattle.commands.specs.declared.made.Unmade.TheVariants as unmade
 use Rattle.commands.specs.Tells.{WhereItFits, IsWritten, RunTells, BuildTells, TellsOfBundle, TellsOfImage, Fits, IsServed, no_fit_line}
 
 -- what is told of the image that was made is told of the bundle's
-of_image : (tells : Image → Type 0) (answer : Status) (b : Bundle) (text : List ℕ) (m : Image) → m ≡ sliced_image b → sliced_need b ≤ b.file → Implements m b → tells m → WhereItFits tells answer b text
+pub of_image : (tells : Image → Type 0) (answer : Status) (b : Bundle) (text : List ℕ) (m : Image) → m ≡ sliced_image b → sliced_need b ≤ b.file → Implements m b → tells m → WhereItFits tells answer b text
 of_image tells answer b text m is fits same told =
     inr (record { fits = fits; same = subst (λ n. Implements n b) is same; told = subst tells is told })
 
-does_not_fit : (tells : Image → Type 0) (need file : ℕ) (answer : Status) (b : Bundle) (text : List ℕ) → IsUnmade (unmade.NoFit need file) b → answer ≡ status.NoFit → text ≡ no_fit_line need file → WhereItFits tells answer b text
+pub does_not_fit : (tells : Image → Type 0) (need file : ℕ) (answer : Status) (b : Bundle) (text : List ℕ) → IsUnmade (unmade.NoFit need file) b → answer ≡ status.NoFit → text ≡ no_fit_line need file → WhereItFits tells answer b text
 does_not_fit tells need file answer b text above answered told =
     inl (record { answered = answered; above = above.2; told = told ∙ ap (λ n. no_fit_line n file) above.0 ∙ ap (no_fit_line (sliced_need b)) above.1 })
 
@@ -58,7 +58,7 @@ finished_served : (b : Bool) → IsServed (if b then status.Trapped else status.
 finished_served true = tt
 finished_served false = tt
 
-ended_served : (core : Core) (end : End) (phases : List Phase) → ending_of core ≡ Some end → IsServed (status_of end phases)
+pub ended_served : (core : Core) (end : End) (phases : List Phase) → ending_of core ≡ Some end → IsServed (status_of end phases)
 ended_served core ending.Finished phases h = finished_served (list_any has_trapped phases)
 ended_served core ending.Stuck phases h = tt
 ended_served core ending.Bound phases h = tt

@@ -8,8 +8,9 @@ use Rattle.world.specs.declared.event.Phase.TheVariants.{Trapped}
 use Rattle.world.specs.declared.event.Entry.{Entry}
 use Rattle.world.specs.declared.event.End.{End}
 use Rattle.world.specs.declared.event.End.TheVariants as ending
-use Rattle.semantics.specs.Core.{shown_core}
+use Rattle.semantics.specs.Core.{shown_core, ending_of}
 use Rattle.semantics.specs.Events.{Config}
+use Rattle.semantics.specs.Entries.{LeadsTo}
 use Rattle.semantics.specs.Machine.{Machine, machine_semantics, machine_open}
 use Rattle.semantics.specs.Source.{Contexts, source_semantics, source_open}
 use Rattle.round_order.specs.RoundRuns.{IsRoundRun}
@@ -28,6 +29,18 @@ status_of ending.Finished phases = if list_any has_trapped phases then status.Tr
 status_of ending.Stuck phases = status.Stuck
 status_of ending.Bound phases = status.Bound
 status_of ending.Idle phases = status.Idle
+
+-- the status of a run that may go on
+abbrev pub status_so_far : Option End → List Phase → Status
+status_so_far None phases = status.Done
+status_so_far (Some end) phases = status_of end phases
+
+-- these entries are legal for this image and so many steps, and the text is the report of where they lead
+pub record IsReportOfEntries (steps : ℕ) (m : Image) (need : Option ℕ) (entries : List Entry) (answer : Status) (text : List ℕ) : Type 0 where
+  pub last : Config Machine
+  pub legal : LeadsTo (machine_semantics m) (machine_open m steps) entries last
+  pub answered : answer ≡ status_so_far (ending_of last.core) last.core.phases
+  pub reported : text ≡ report_text need (Some m) m.setting.channels entries (record { view = shown_core last.core; file = Some last.state.file; ending = ending_of last.core })
 
 -- the text is the report of a run of this image in round order, of at most so many steps, with no port at hand; the need
 -- is told where the image was made for a bundle

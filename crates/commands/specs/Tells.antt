@@ -16,6 +16,8 @@ use Rattle.commands.specs.declared.task.BundleTask.{BundleTask}
 use Rattle.commands.specs.declared.task.BundleTask.TheVariants as bundle
 use Rattle.commands.specs.declared.task.ImageTask.{ImageTask}
 use Rattle.commands.specs.declared.task.ImageTask.TheVariants as image
+use Rattle.commands.specs.declared.task.JournalTask.{JournalTask}
+use Rattle.commands.specs.declared.task.JournalTask.TheVariants as journal
 use Rattle.commands.specs.Reports.{IsReport, IsSourceReport}
 
 -- `nofit need N file F`
@@ -71,9 +73,13 @@ steps_of_bundle _ = 0
 abbrev pub steps_of_image : ImageTask → ℕ
 steps_of_image (image.Exec steps) = steps
 
+abbrev pub steps_of_journal : JournalTask → ℕ
+steps_of_journal (journal.Replay steps) = steps
+
 abbrev pub steps_of : Task → ℕ
 steps_of (task.OfBundle t) = steps_of_bundle t
 steps_of (task.OfImage t) = steps_of_image t
+steps_of (task.OfJournal t) = steps_of_journal t
 
 abbrev pub IsBounded : Task → Type 0
 IsBounded t = steps_of t ≤ MOST_STEPS

@@ -3,14 +3,16 @@
 ghost use Rattle.std.specs.Prelude.{◌≡◌, ◌≤◌, IfOk, Some};
 ghost use Rattle.micro_isa.specs.Formed.{IsFormedImage};
 ghost use Rattle.semantics.specs.Core.{shown_core};
+ghost use Rattle.run_journal.specs.Histories.{run_ending};
 ghost use Rattle.report_run.specs.Report.{report_text};
-ghost use Rattle.commands.specs.Reports.{IsReport, status_of};
+ghost use Rattle.commands.specs.Reports.{IsReport, status_of, status_so_far};
 
-use crate::reports::status_of;
+use crate::reports::{status_of, status_so_far};
 use crate::task::Reply;
 use engine_core::Engine;
 use micro_isa::{Image, List, MOST_STEPS, NoMemory};
 use report_run::{Outcome, print_report};
+use run_journal::Run;
 use round_order::{EngineRun, run_engine};
 use std::alloc::Global;
 use world::End;
@@ -43,7 +45,7 @@ fn report_of(
     ensures status { IfOk result (λ r. r.status ≡ status_of run.now.end run.now.engine.core.phases) }
     ensures text { IfOk result (λ r. r.text.items ≡ report_text need (Some image.now) image.now.setting.channels run.now.entries.items (record { view = shown_core run.now.engine.core; file = Some run.now.engine.file; ending = Some run.now.end })) }
 {
-    let last = outcome(alloc, &run.engine, run.end)?;
+    let last = outcome(alloc, &run.engine, Some(run.end))?;
     let text = print_report(
         alloc,
         need,
@@ -58,15 +60,15 @@ fn report_of(
     })
 }
 
-fn outcome(alloc: Global, engine: &Engine, end: End) -> Result<Outcome, NoMemory>
-    ensures { IfOk result (λ last. last ≡ record { view = shown_core engine.now.core; file = Some engine.now.file; ending = Some end }) }
+fn outcome(alloc: Global, engine: &Engine, ending: Option<End>) -> Result<Outcome, NoMemory>
+    ensures { IfOk result (λ last. last ≡ record { view = shown_core engine.now.core; file = Some engine.now.file; ending = ending }) }
 {
     let view = engine.view(alloc)?;
     let file = file_of(alloc, engine)?;
     Ok(Outcome {
         view,
         file: Some(file),
-        ending: Some(end),
+        ending,
     })
 }
 
@@ -77,4 +79,30 @@ fn file_of(alloc: Global, engine: &Engine) -> Result<List<u32>, NoMemory>
         Ok(file) => Ok(List::of(file)),
         Err(_) => Err(NoMemory),
     }
+}
+
+/// The report of a run as it stands.
+pub(crate) fn report_of_run(
+    alloc: Global,
+    need: Option<u32>,
+    run: &Run,
+) -> Result<Reply, NoMemory>
+    ensures status { IfOk result (λ r. r.status ≡ status_so_far (run_ending run.now.engine.core run.now.idle) run.now.engine.core.phases) }
+    ensures text { IfOk result (λ r. r.text.items ≡ report_text need (Some run.now.engine.image) run.now.engine.image.setting.channels run.now.entries (record { view = shown_core run.now.engine.core; file = Some run.now.engine.file; ending = run_ending run.now.engine.core run.now.idle })) }
+{
+    let engine = run.engine();
+    let image = engine.image();
+    let last = outcome(alloc, engine, run.ending())?;
+    let text = print_report(
+        alloc,
+        need,
+        Some(image),
+        &image.setting.channels,
+        run.entries(),
+        &last,
+    )?;
+    Ok(Reply {
+        status: status_so_far(last.ending, last.view.phases.as_slice()),
+        text,
+    })
 }

@@ -1,10 +1,13 @@
-//! What the commands do with their input, once it is read: with a bundle or with an image.
+//! What the commands do with their input, once it is read: with a bundle, an image, or a bundle and a
+//! journal.
 #![tactic(auto)]
 
 mod bundle_images;
 mod bundles;
 mod image_runs;
 mod images;
+mod journal_lines;
+mod journals;
 mod made;
 mod reports;
 mod sources;
@@ -13,5 +16,6 @@ mod task;
 
 pub use bundles::perform_on_bundle;
 pub use images::perform_on_image;
+pub use journals::perform_on_journal;
 pub use status::Status;
-pub use task::{BundleTask, ImageTask, Reply, Task};
+pub use task::{BundleTask, ImageTask, JournalTask, Reply, Task};

@@ -2,7 +2,7 @@
 
 ghost use Rattle.std.specs.Prelude.{◌≡◌, if◌then◌else◌};
 ghost use Rattle.std.specs.List.{list_any};
-ghost use Rattle.commands.specs.Reports.{has_trapped, status_of};
+ghost use Rattle.commands.specs.Reports.{has_trapped, status_of, status_so_far};
 
 use crate::status::Status;
 use world::{End, Phase};
@@ -15,6 +15,16 @@ pub(crate) fn status_of(end: End, phases: &[Phase]) -> Status
         End::Stuck => Status::Stuck,
         End::Bound => Status::Bound,
         End::Idle => Status::Idle,
+    }
+}
+
+/// The status of a run that may go on.
+pub(crate) fn status_so_far(ending: Option<End>, phases: &[Phase]) -> Status
+    ensures { result ≡ status_so_far ending phases.now }
+{
+    match ending {
+        Some(end) => status_of(end, phases),
+        None => Status::Done,
     }
 }
 

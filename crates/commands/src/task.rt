@@ -7,6 +7,8 @@ pub enum Task {
     OfBundle(BundleTask),
     /// The input is the bytes of an image.
     OfImage(ImageTask),
+    /// The input is the text of a bundle, and behind a line `journal` the text of a journal.
+    OfJournal(JournalTask),
 }
 
 /// What is to be done with a bundle.
@@ -29,6 +31,13 @@ pub enum BundleTask {
 pub enum ImageTask {
     /// It runs in round order, for at most this many steps.
     Exec { steps: u32 },
+}
+
+/// What is to be done with a bundle and a journal.
+#[derive(Clone, Copy, Debug, PartialEq, Eq)]
+pub enum JournalTask {
+    /// The bundle's image follows the journal, for at most this many steps.
+    Replay { steps: u32 },
 }
 
 /// What is to be written, and the status once it is.

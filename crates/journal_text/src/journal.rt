@@ -6,7 +6,7 @@ ghost use Rattle.journal_text.specs.Faults.{StraysAt, IsUnread};
 
 use crate::lines::{first_line, line_at};
 use crate::words::read_entry;
-use micro_isa::List;
+use micro_isa::{LONGEST_JOURNAL, List};
 use std::alloc::Global;
 use thiserror::Error;
 use world::Entry;
@@ -24,7 +24,7 @@ pub enum JournalFault {
 /// The entries of a journal, one for each line. Only one list of entries has these lines.
 #[tactic(auto, using(crate::proofs::Reading::read_none, crate::proofs::Reading::read_more, crate::proofs::Reading::read_all, crate::proofs::Reading::read_alone, crate::proofs::Reading::strays_at, crate::proofs::Reading::stray_unread))]
 pub fn read_journal(alloc: Global, text: &[u8]) -> Result<List<Entry>, JournalFault>
-    requires { length text.now ≤ 67108864 }
+    requires { length text.now ≤ LONGEST_JOURNAL }
     ensures fine { IfOk result (IsJournal text.now) }
     ensures alone { IfOk result (λ es. (other : Sequence Entry) → IsJournal text.now other → other ≡ es) }
     ensures cause { IfErr result (λ why. StraysAt why text.now) }

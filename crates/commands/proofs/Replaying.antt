@@ -1,0 +1,105 @@
+-- What a replay tells, from what its parts leave; and that what fits is served.
+use Rattle.std.proofs.Common.{◌≡◌, ℕ, ◌<◌, ◌≤◌, List, Option, Some, None, Result, Ok, Err, IfOk, refl, sym, ap, ◌∙◌, subst, arith, inl, inr}
+use Rattle.std.specs.Option.{option_or}
+use Rattle.micro_isa.specs.declared.list.NoMemory.{NoMemory}
+use Rattle.commands.specs.declared.task.Reply.{Reply}
+use Rattle.micro_isa.specs.declared.program.Bundle.{Bundle}
+use Rattle.micro_isa.specs.declared.image.Image.{Image}
+use Rattle.world.specs.declared.event.Entry.{Entry}
+use Rattle.world.specs.declared.event.End.{End}
+use Rattle.semantics.specs.Agreement.{Implements}
+use Rattle.semantics.specs.Core.{Core, ending_of, shown_core}
+use Rattle.semantics.specs.Events.{Config}
+use Rattle.semantics.specs.Entries.{LeadsTo}
+use Rattle.semantics.specs.Machine.{Machine, machine_semantics, machine_open}
+use Rattle.engine_core.specs.EngineState.{config_of}
+use Rattle.sliced_image.specs.Sliced.{sliced_need, sliced_image}
+use Rattle.journal_text.specs.Journals.{IsJournal, IsFirstStray}
+use Rattle.run_journal.specs.declared.replaying.ReplayFault.{ReplayFault}
+use Rattle.run_journal.specs.declared.replaying.ReplayFault.TheVariants as fault
+use Rattle.run_journal.specs.Histories.{RunState, run_ending}
+use Rattle.run_journal.specs.Replays.{Replays, StraysBy, IsRefused}
+use Rattle.report_run.specs.Report.{report_text}
+use Rattle.commands.specs.declared.status.Status.{Status}
+use Rattle.commands.specs.declared.status.Status.TheVariants as status
+use Rattle.commands.specs.declared.task.JournalTask.{JournalTask}
+use Rattle.commands.specs.declared.task.JournalTask.TheVariants as journal
+use Rattle.commands.specs.declared.made.Unmade.TheVariants as unmade
+use Rattle.commands.specs.Made.{IsUnmade}
+use Rattle.commands.specs.Reports.{IsReportOfEntries, status_of, status_so_far}
+use Rattle.commands.specs.Tells.{no_fit_line, IsServed}
+use Rattle.commands.specs.Journals.{unread_line, IsUnread, AreEntries, TellsStray, IsStray, EntriesReplayed, IsRead, Replayed, TellsOfJournal, FitsJournal}
+use Rattle.commands.proofs.Telling.{of_image, does_not_fit, ended_served}
+
+pub replay_tells : (steps : ℕ) (answer : Status) (b : Bundle) (lines text : List ℕ) (m : Image) (need : ℕ) → m ≡ sliced_image b → need ≡ sliced_need b → sliced_need b ≤ b.file → Implements m b → Replayed steps m need lines answer text → TellsOfJournal (journal.Replay steps) answer b lines text
+replay_tells steps answer b lines text m need is needs fits same told =
+    of_image (λ n. Replayed steps n (sliced_need b) lines answer text) answer b text m is fits same (subst (λ n. Replayed steps m n lines answer text) needs told)
+
+pub replay_does_not_fit : (steps need file : ℕ) (answer : Status) (b : Bundle) (lines text : List ℕ) → IsUnmade (unmade.NoFit need file) b → answer ≡ status.NoFit → text ≡ no_fit_line need file → TellsOfJournal (journal.Replay steps) answer b lines text
+replay_does_not_fit steps need file answer b lines text above answered told =
+    does_not_fit (λ m. Replayed steps m (sliced_need b) lines answer text) need file answer b text above answered told
+
+-- lines that are not entries, and lines that are
+pub told_unread : (steps need at : ℕ) (m : Image) (lines : List ℕ) (answer : Status) (text : List ℕ) → IsFirstStray lines at → ((entries : List Entry) → IsJournal lines entries → ⊥) → answer ≡ status.BadJournal → text ≡ unread_line at → Replayed steps m need lines answer text
+told_unread steps need at m lines answer text stray unread answered told =
+    inl (record { answered = answered; at = at; stray = stray; unread = unread; told = told })
+
+pub told_read : (steps need : ℕ) (m : Image) (lines : List ℕ) (entries : List Entry) (answer : Status) (text : List ℕ) → IsJournal lines entries → ((other : List Entry) → IsJournal lines other → other ≡ entries) → EntriesReplayed steps m need entries answer text → Replayed steps m need lines answer text
+told_read steps need m lines entries answer text read alone replayed =
+    inr (record { entries = entries; are = record { read = read; alone = alone }; replayed = replayed })
+
+-- entries that stray, and entries that are legal
+pub stray_told : (steps need : ℕ) (m : Image) (entries : List Entry) (why : ReplayFault) (answer : Status) (text : List ℕ) → StraysBy why m steps entries → IsRefused why m steps entries → answer ≡ status.BadJournal → TellsStray why text → EntriesReplayed steps m need entries answer text
+stray_told steps need m entries why answer text strays refused answered told =
+    inl (record { answered = answered; why = why; strays = strays; refused = refused; told = told })
+
+-- without a pump a run ends as its engine
+no_idle : (core : Core) (idle : ℕ) → idle ≡ 0 → run_ending core idle ≡ ending_of core
+no_idle core idle none = ap (run_ending core) none ∙ by (ending_of core)
+  where
+    by : (o : Option End) → option_or o None ≡ o
+    by None = refl
+    by (Some end) = refl
+
+pub report_of_entries : (steps need : ℕ) (m : Image) (entries : List Entry) (r : RunState) (answer : Status) (text : List ℕ) → Replays r m steps entries → LeadsTo (machine_semantics m) (machine_open m steps) entries (config_of r.engine) → answer ≡ status_so_far (run_ending r.engine.core r.idle) r.engine.core.phases → text ≡ report_text (Some need) (Some r.engine.image) r.engine.image.setting.channels r.entries (record { view = shown_core r.engine.core; file = Some r.engine.file; ending = run_ending r.engine.core r.idle }) → EntriesReplayed steps m need entries answer text
+report_of_entries steps need m entries r answer text replays legal answered told =
+    let end = no_idle r.engine.core r.idle replays.no_pump in inr (record {
+      last = config_of r.engine;
+      legal = legal;
+      answered = answered ∙ ap (λ o. status_so_far o r.engine.core.phases) end;
+      reported = told
+      ∙ ap (λ (i : Image). report_text (Some need) (Some i) i.setting.channels r.entries (record { view = shown_core r.engine.core; file = Some r.engine.file; ending = run_ending r.engine.core r.idle })) replays.same_image
+      ∙ ap (λ l. report_text (Some need) (Some m) m.setting.channels l (record { view = shown_core r.engine.core; file = Some r.engine.file; ending = run_ending r.engine.core r.idle })) replays.same_entries
+      ∙ ap (λ o. report_text (Some need) (Some m) m.setting.channels entries (record { view = shown_core r.engine.core; file = Some r.engine.file; ending = o })) end;
+    })
+
+-- a run that may go on is served
+so_far_served : (core : Core) (o : Option End) → ending_of core ≡ o → IsServed (status_so_far o core.phases)
+so_far_served core None h = tt
+so_far_served core (Some end) h = ended_served core end core.phases h
+
+stray_unserved : (why : ReplayFault) (m : Image) (steps : ℕ) (entries : List Entry) (text : List ℕ) (last : Config Machine) → IsRefused why m steps entries → TellsStray why text → LeadsTo (machine_semantics m) (machine_open m steps) entries last → ⊥
+stray_unserved (fault.Illegal at written) m steps entries text last refused told legal = refused last legal
+stray_unserved (fault.Differs at written found) m steps entries text last refused told legal = refused last legal
+stray_unserved fault.NoMemory m steps entries text last refused told legal = told
+
+replayed_served : (steps need : ℕ) (m : Image) (entries : List Entry) (last : Config Machine) (answer : Status) (text : List ℕ) → LeadsTo (machine_semantics m) (machine_open m steps) entries last → EntriesReplayed steps m need entries answer text → IsServed answer
+replayed_served steps need m entries last answer text legal (inl s) = absurd (stray_unserved s.why m steps entries text last s.refused s.told legal)
+replayed_served steps need m entries last answer text legal (inr r) = subst IsServed (sym r.answered) (so_far_served r.last.core (ending_of r.last.core) refl)
+
+-- where nothing in the bundle and the journal is a cause, the task is served
+pub journal_served : (t : JournalTask) (answer : Status) (b : Bundle) (lines text : List ℕ) → FitsJournal t b lines → TellsOfJournal t answer b lines text → IsServed answer
+journal_served (journal.Replay steps) answer b lines text fits (inl short) = let above = short.above in let below = fits.0 in absurd (omega (arith, above, below))
+journal_served (journal.Replay steps) answer b lines text fits (inr of) = by of.told
+  where
+    by : Replayed steps (sliced_image b) (sliced_need b) lines answer text → IsServed answer
+    by (inl unread) = absurd (unread.unread fits.1.entries fits.1.read)
+    by (inr read) =
+        let same = read.are.alone fits.1.entries fits.1.read in
+        replayed_served steps (sliced_need b) (sliced_image b) read.entries fits.1.last answer text
+        (subst (λ l. LeadsTo (machine_semantics (sliced_image b)) (machine_open (sliced_image b) steps) l fits.1.last) same fits.1.legal)
+        read.replayed
+
+pub served_where_ok : (t : JournalTask) (b : Bundle) (lines : List ℕ) (r : Result Reply NoMemory) → IfOk r (λ reply. TellsOfJournal t reply.status b lines reply.text.items) → IfOk r (λ reply. FitsJournal t b lines → IsServed reply.status)
+served_where_ok t b lines (Ok reply) tells = λ fits. journal_served t reply.status b lines reply.text.items fits tells
+served_where_ok t b lines (Err why) tells = tt
