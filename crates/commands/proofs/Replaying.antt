@@ -1,8 +1,6 @@
 -- What a replay tells, from what its parts leave; and that what fits is served.
-use Rattle.std.proofs.Common.{◌≡◌, ℕ, ◌<◌, ◌≤◌, List, Option, Some, None, Result, Ok, Err, IfOk, refl, sym, ap, ◌∙◌, subst, arith, inl, inr}
+use Rattle.std.proofs.Common.{◌≡◌, ℕ, ◌<◌, ◌≤◌, List, Option, Some, None, refl, sym, ap, ◌∙◌, subst, arith, inl, inr}
 use Rattle.std.specs.Option.{option_or}
-use Rattle.micro_isa.specs.declared.list.NoMemory.{NoMemory}
-use Rattle.commands.specs.declared.task.Reply.{Reply}
 use Rattle.micro_isa.specs.declared.program.Bundle.{Bundle}
 use Rattle.micro_isa.specs.declared.image.Image.{Image}
 use Rattle.world.specs.declared.event.Entry.{Entry}
@@ -27,7 +25,7 @@ use Rattle.commands.specs.declared.task.JournalTask.TheVariants as journal
 use Rattle.commands.specs.declared.made.Unmade.TheVariants as unmade
 use Rattle.commands.specs.Made.{IsUnmade}
 use Rattle.commands.specs.Reports.{IsReportOfEntries, status_of, status_so_far}
-use Rattle.commands.specs.Tells.{no_fit_line, IsServed}
+use Rattle.commands.specs.Tells.{no_fit_line, IsServed, steps_of_journal}
 use Rattle.commands.specs.Journals.{unread_line, IsUnread, AreEntries, TellsStray, IsStray, EntriesReplayed, IsRead, Replayed, TellsOfJournal, FitsJournal}
 use Rattle.commands.proofs.Telling.{of_image, does_not_fit, ended_served}
 
@@ -100,6 +98,9 @@ journal_served (journal.Replay steps) answer b lines text fits (inr of) = by of.
         (subst (λ l. LeadsTo (machine_semantics (sliced_image b)) (machine_open (sliced_image b) steps) l fits.1.last) same fits.1.legal)
         read.replayed
 
-pub served_where_ok : (t : JournalTask) (b : Bundle) (lines : List ℕ) (r : Result Reply NoMemory) → IfOk r (λ reply. TellsOfJournal t reply.status b lines reply.text.items) → IfOk r (λ reply. FitsJournal t b lines → IsServed reply.status)
-served_where_ok t b lines (Ok reply) tells = λ fits. journal_served t reply.status b lines reply.text.items fits tells
-served_where_ok t b lines (Err why) tells = tt
+-- a task is the replay of its steps
+pub told_with : (t : JournalTask) (steps : ℕ) (answer : Status) (b : Bundle) (lines text : List ℕ) → steps ≡ steps_of_journal t → TellsOfJournal (journal.Replay steps) answer b lines text → TellsOfJournal t answer b lines text
+told_with (journal.Replay n) steps answer b lines text is tells = subst (λ k. TellsOfJournal (journal.Replay k) answer b lines text) is tells
+
+pub served_with : (t : JournalTask) (steps : ℕ) (answer : Status) (b : Bundle) (lines text : List ℕ) → steps ≡ steps_of_journal t → TellsOfJournal (journal.Replay steps) answer b lines text → FitsJournal t b lines → IsServed answer
+served_with t steps answer b lines text is tells fits = journal_served t answer b lines text fits (told_with t steps answer b lines text is tells)

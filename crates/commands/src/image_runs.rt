@@ -91,13 +91,13 @@ pub(crate) fn report_of_run(
     ensures text { IfOk result (λ r. r.text.items ≡ report_text need (Some run.now.engine.image) run.now.engine.image.setting.channels run.now.entries (record { view = shown_core run.now.engine.core; file = Some run.now.engine.file; ending = run_ending run.now.engine.core run.now.idle })) }
 {
     let engine = run.engine();
-    let image = engine.image();
+    let built = engine.image();
     let last = outcome(alloc, engine, run.ending())?;
     let text = print_report(
         alloc,
         need,
-        Some(image),
-        &image.setting.channels,
+        Some(built),
+        &built.setting.channels,
         run.entries(),
         &last,
     )?;

@@ -22,6 +22,7 @@ use std::alloc::Global;
 use world::Entry;
 
 /// Does a task with a formed bundle and the text of a journal.
+#[tactic(auto, using(crate::proofs::Replaying::told_with, crate::proofs::Replaying::served_with))]
 pub fn perform_on_journal(
     alloc: Global,
     task: JournalTask,
@@ -34,8 +35,18 @@ pub fn perform_on_journal(
     ensures tells { IfOk result (λ r. TellsOfJournal task r.status bundle.now journal.now r.text.items) }
     ensures served { IfOk result (λ r. FitsJournal task bundle.now journal.now → IsServed r.status) }
 {
+    match replay_bundle(alloc, bundle, journal, steps_of(task)) {
+        Ok(reply) => Ok(reply),
+        Err(NoMemory) => Err(NoMemory),
+    }
+}
+
+/// The steps of a replay.
+fn steps_of(task: JournalTask) -> u32
+    ensures { result ≡ steps_of_journal task }
+{
     match task {
-        JournalTask::Replay { steps } => replay_bundle(alloc, bundle, journal, steps),
+        JournalTask::Replay { steps } => steps,
     }
 }
 

@@ -57,6 +57,7 @@ pub fn read_journal(alloc: Global, text: &[u8]) -> Result<List<Entry>, JournalFa
 pub fn split_journal<'a>(text: &'a [u8]) -> (&'a [u8], &'a [u8])
     ensures bundle { result.0.now ≡ bundle_part text.now }
     ensures journal { result.1.now ≡ journal_part text.now }
+    ensures within { length result.1.now ≤ length text.now }
 {
     let mut start = 0;
     'lines: while start < text.len() {

@@ -6,10 +6,15 @@ use Rattle.micro_kit.specs.Streams.{Rose, Gives, Grew, IsSpent}
 use Rattle.commands.specs.declared.status.Status.{Status}
 use Rattle.commands.specs.declared.status.Status.TheVariants as status
 use Rattle.commands.specs.declared.task.Task.{Task}
-use Rattle.commands.specs.declared.task.Task.TheVariants.{OfBundle, OfImage}
+use Rattle.commands.specs.declared.task.Task.TheVariants.{OfBundle, OfImage, OfJournal}
 use Rattle.commands.specs.Tells.{Fits, IsServed}
 use Rattle.micro_cli.specs.declared.command.Silence.TheVariants as silence
-use Rattle.micro_cli.specs.Answers.{Says, TellsInput, TellsTooLong, TellsUsage, TellsTask, Asks}
+use Rattle.micro_isa.specs.declared.program.Bundle.{Bundle}
+use Rattle.asm_text.specs.Texts.{Spells}
+use Rattle.commands.specs.declared.task.JournalTask.{JournalTask}
+use Rattle.commands.specs.Journals.{FitsJournal}
+use Rattle.journal_text.specs.Journals.{bundle_part, journal_part}
+use Rattle.micro_cli.specs.Answers.{SaysOfParts, Says, TellsInput, TellsTooLong, TellsUsage, TellsTask, Asks}
 use Rattle.micro_cli.specs.Lines.{limit_of}
 use Rattle.micro_cli.specs.Silences.{IsSilent}
 use Rattle.micro_cli.specs.Calls.{Outside, Finishes, Serves, HasNoCause, IsServedOrFree}
@@ -43,6 +48,16 @@ longer input taken (Some rest) gives =
     let e : length input ≡ length taken + length rest = ap length (same_Some _ _ gives) ∙ length-append taken rest in
     omega (arith, e)
 
+-- what is told of a bundle's text and a journal that the task serves
+of_parts : (task : JournalTask) (answer : Status) (bundle_text journal text : List ℕ) (b : Bundle) → Spells bundle_text b → FitsJournal task b journal → SaysOfParts task answer bundle_text journal text → IsServed answer
+of_parts task answer bundle_text journal text b spelt fits (inl bad) =
+    let none = spelt.free in
+    let some = bad.found in
+    absurd (cc)
+of_parts task answer bundle_text journal text b spelt fits (inr tells) =
+    let same : tells.bundle ≡ b = tells.spelt.said ∙ sym spelt.said in
+    tells.served (subst (λ x. FitsJournal task x journal) (sym same) fits)
+
 -- what is told of an input that the task serves
 said : (task : Task) (answer : Status) (input text : List ℕ) → Serves task input → Says task answer input text → IsServed answer
 said (OfBundle task) answer input text serves (inl bad) =
@@ -54,6 +69,8 @@ said (OfBundle task) answer input text serves (inr tells) =
     tells.served (subst (Fits task) (sym same) serves.fits)
 said (OfImage task) answer input text serves (inl bad) = absurd (bad.unspelled serves.0 serves.1)
 said (OfImage task) answer input text serves (inr tells) = tells.served
+said (OfJournal task) answer input text serves (inl long) = let above = long.above in let short = serves.short in absurd (omega (arith, above, short))
+said (OfJournal task) answer input text serves (inr parts) = of_parts task answer (bundle_part input) (journal_part input) text serves.bundle serves.spelt serves.fits parts.says
 
 -- what is told of the task that the words ask for
 task_is_served : (answer : Status) (words : List (List ℕ)) (o : Outside) (text : List ℕ) (h : HasNoCause words o) → TellsTask answer words o.left o.left' text → IsServed answer

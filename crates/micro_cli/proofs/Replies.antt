@@ -1,5 +1,5 @@
 -- From what is said of an input to what a call asks to be written.
-use Rattle.std.proofs.Common.{◌≡◌, ℕ, ◌+◌, List, length, Option, None, Some, refl, inl, inr}
+use Rattle.std.proofs.Common.{◌≡◌, ℕ, ◌+◌, ◌<◌, ◌≤◌, subst, List, length, Option, None, Some, refl, inl, inr}
 use Rattle.micro_isa.specs.declared.program.Bundle.{Bundle}
 use Rattle.micro_isa.specs.declared.image.Image.{Image}
 use Rattle.micro_kit.specs.Streams.{Gives, IsWhole}
@@ -8,7 +8,7 @@ use Rattle.asm_text.specs.Texts.{text_fault, Spells}
 use Rattle.commands.specs.declared.status.Status.{Status}
 use Rattle.commands.specs.declared.status.Status.TheVariants as status
 use Rattle.commands.specs.declared.task.Task.{Task}
-use Rattle.commands.specs.declared.task.Task.TheVariants.{OfBundle, OfImage}
+use Rattle.commands.specs.declared.task.Task.TheVariants.{OfBundle, OfImage, OfJournal}
 use Rattle.commands.specs.declared.task.BundleTask.{BundleTask}
 use Rattle.commands.specs.declared.task.ImageTask.{ImageTask}
 use Rattle.commands.specs.Tells.{TellsOfBundle, TellsOfImage, Fits, IsServed}
@@ -21,7 +21,11 @@ use Rattle.micro_cli.specs.declared.command.Silence.{Silence}
 use Rattle.micro_cli.specs.declared.command.Silence.TheVariants as silence
 use Rattle.micro_cli.specs.Lines.{usage_line, limit_of, too_long_line, bad_bundle_line, bad_image_line}
 use Rattle.micro_cli.specs.Words.{task_asked}
-use Rattle.micro_cli.specs.Answers.{Says, AsksOfInput, Asks}
+use Rattle.commands.specs.declared.task.JournalTask.{JournalTask}
+use Rattle.commands.specs.Journals.{TellsOfJournal, FitsJournal}
+use Rattle.journal_text.specs.Journals.{bundle_part, journal_part}
+use Rattle.micro_isa.specs.declared.limits.TheConstants.{LONGEST_BUNDLE}
+use Rattle.micro_cli.specs.Answers.{SaysOfParts, Says, AsksOfInput, Asks}
 use Rattle.micro_cli.specs.Silences.{FailsToRead, IsSilent}
 
 -- what a task tells of the bundle that the input spells
@@ -39,6 +43,24 @@ says_of_image task answer input text m spelt tells served = inr (record { image 
 -- the first fault of bytes
 pub says_of_bytes_fault : (task : ImageTask) (answer : Status) (input text : List ℕ) (offset : ℕ) (kind : ImageKind) → Causes (bytes_fault.At offset kind) (image_fault input) → ((m : Image) → SpellsImage input m → ⊥) → answer ≡ status.BadImage → text ≡ bad_image_line offset kind → Says (OfImage task) answer input text
 says_of_bytes_fault task answer input text offset kind found unspelled answered told = inl (record { answered = answered; offset = offset; kind = kind; found = found; told = told; unspelled = unspelled })
+
+-- what a task tells of a bundle's text and a journal
+pub says_of_journal : (task : JournalTask) (answer : Status) (bundle_text journal text : List ℕ) (b : Bundle) → Spells bundle_text b → TellsOfJournal task answer b journal text → (FitsJournal task b journal → IsServed answer) → SaysOfParts task answer bundle_text journal text
+says_of_journal task answer bundle_text journal text b spelt tells served = inr (record { bundle = b; spelt = spelt; tells = tells; served = served })
+
+pub says_of_bundle_fault : (task : JournalTask) (answer : Status) (bundle_text journal text : List ℕ) (at : At) → text_fault bundle_text ≡ Some at → answer ≡ status.BadBundle → text ≡ bad_bundle_line at → SaysOfParts task answer bundle_text journal text
+says_of_bundle_fault task answer bundle_text journal text at found answered told = inl (record { answered = answered; at = at; found = found; told = told })
+
+-- the parts of an input, the first of which may be too long
+pub says_of_long_part : (task : JournalTask) (answer : Status) (input text part : List ℕ) → part ≡ bundle_part input → LONGEST_BUNDLE < length part → answer ≡ status.TooLong → text ≡ too_long_line LONGEST_BUNDLE → Says (OfJournal task) answer input text
+says_of_long_part task answer input text part is above answered told =
+    inl (record { answered = answered; above = subst (λ l. LONGEST_BUNDLE < length l) is above; told = told })
+
+pub says_of_parts : (task : JournalTask) (answer : Status) (input text part journal : List ℕ) → part ≡ bundle_part input → journal ≡ journal_part input → length part ≤ LONGEST_BUNDLE → SaysOfParts task answer part journal text → Says (OfJournal task) answer input text
+says_of_parts task answer input text part journal is rest short says = inr (record {
+  short = subst (λ l. length l ≤ LONGEST_BUNDLE) is short;
+  says = subst (λ l. SaysOfParts task answer l (journal_part input) text) is (subst (λ l. SaysOfParts task answer part l text) rest says);
+})
 
 -- what is said of an input that was read to its end is asked for
 pub asks_of_input : (task : Task) (answer : Status) (left left' : Option (List ℕ)) (input text : List ℕ) → IsWhole left input left' (limit_of task) → Says task answer input text → AsksOfInput task answer left left' text

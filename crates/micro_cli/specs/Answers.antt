@@ -1,5 +1,5 @@
 -- What a call of the program asks to be written.
-use Rattle.std.specs.Prelude.{◌≡◌, ℕ, ◌+◌, ◌⊎◌, List, length, Option, Some, None}
+use Rattle.std.specs.Prelude.{◌≡◌, ℕ, ◌+◌, ◌<◌, ◌≤◌, ◌⊎◌, List, length, Option, Some, None}
 use Rattle.micro_isa.specs.declared.program.Bundle.{Bundle}
 use Rattle.micro_isa.specs.declared.image.Image.{Image}
 use Rattle.micro_kit.specs.Streams.{Gives, IsWhole}
@@ -13,9 +13,13 @@ use Rattle.image_load.specs.Loading.{image_fault}
 use Rattle.commands.specs.declared.status.Status.{Status}
 use Rattle.commands.specs.declared.status.Status.TheVariants as status
 use Rattle.commands.specs.declared.task.Task.{Task}
-use Rattle.commands.specs.declared.task.Task.TheVariants.{OfBundle, OfImage}
+use Rattle.commands.specs.declared.task.Task.TheVariants.{OfBundle, OfImage, OfJournal}
 use Rattle.commands.specs.declared.task.BundleTask.{BundleTask}
 use Rattle.commands.specs.declared.task.ImageTask.{ImageTask}
+use Rattle.commands.specs.declared.task.JournalTask.{JournalTask}
+use Rattle.commands.specs.Journals.{TellsOfJournal, FitsJournal}
+use Rattle.journal_text.specs.Journals.{bundle_part, journal_part}
+use Rattle.micro_isa.specs.declared.limits.TheConstants.{LONGEST_BUNDLE}
 use Rattle.commands.specs.Tells.{TellsOfBundle, TellsOfImage, Fits, IsServed}
 use Rattle.micro_cli.specs.Lines.{usage_line, limit_of, too_long_line, bad_bundle_line, bad_image_line}
 use Rattle.micro_cli.specs.Words.{task_asked}
@@ -50,10 +54,34 @@ pub record TellsImage (task : ImageTask) (answer : Status) (input text : List �
   pub tells : TellsOfImage task answer image text
   pub served : IsServed answer
 
+-- the part of the input that is a bundle has more bytes than a bundle may have
+pub record TellsLongPart (answer : Status) (input text : List ℕ) : Type 0 where
+  pub answered : answer ≡ status.TooLong
+  pub above : LONGEST_BUNDLE < length (bundle_part input)
+  pub told : text ≡ too_long_line LONGEST_BUNDLE
+
+-- a text spells a bundle, and this is what the task tells of it and of a journal; where both fit they are served
+pub record TellsJournal (task : JournalTask) (answer : Status) (bundle_text journal text : List ℕ) : Type 0 where
+  pub bundle : Bundle
+  pub spelt : Spells bundle_text bundle
+  pub tells : TellsOfJournal task answer bundle journal text
+  pub served : FitsJournal task bundle journal → IsServed answer
+
+-- what a task asks to be written for a bundle's text and a journal
+abbrev pub SaysOfParts : JournalTask → Status → List ℕ → List ℕ → List ℕ → Type 0
+SaysOfParts task answer bundle_text journal text =
+    TellsTextFault answer bundle_text text ⊎ TellsJournal task answer bundle_text journal text
+
+-- the part of the input that is a bundle is short enough, and this is told of both parts
+pub record TellsParts (task : JournalTask) (answer : Status) (input text : List ℕ) : Type 0 where
+  pub short : length (bundle_part input) ≤ LONGEST_BUNDLE
+  pub says : SaysOfParts task answer (bundle_part input) (journal_part input) text
+
 -- what a task asks to be written for an input
 abbrev pub Says : Task → Status → List ℕ → List ℕ → Type 0
 Says (OfBundle task) answer input text = TellsTextFault answer input text ⊎ TellsBundle task answer input text
 Says (OfImage task) answer input text = TellsBytesFault answer input text ⊎ TellsImage task answer input text
+Says (OfJournal task) answer input text = TellsLongPart answer input text ⊎ TellsParts task answer input text
 
 -- the input was read to its end, and this is asked to be written for it
 pub record TellsInput (task : Task) (answer : Status) (left left' : Option (List ℕ)) (text : List ℕ) : Type 0 where

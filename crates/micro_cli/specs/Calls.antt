@@ -8,8 +8,12 @@ use Rattle.image_load.specs.Spelling.{Spells as SpellsImage}
 use Rattle.commands.specs.declared.status.Status.{Status}
 use Rattle.commands.specs.declared.status.Status.TheVariants as status
 use Rattle.commands.specs.declared.task.Task.{Task}
-use Rattle.commands.specs.declared.task.Task.TheVariants.{OfBundle, OfImage}
+use Rattle.commands.specs.declared.task.Task.TheVariants.{OfBundle, OfImage, OfJournal}
 use Rattle.commands.specs.declared.task.BundleTask.{BundleTask}
+use Rattle.commands.specs.declared.task.JournalTask.{JournalTask}
+use Rattle.commands.specs.Journals.{FitsJournal}
+use Rattle.journal_text.specs.Journals.{bundle_part, journal_part}
+use Rattle.micro_isa.specs.declared.limits.TheConstants.{LONGEST_BUNDLE}
 use Rattle.commands.specs.Tells.{Fits, IsServed}
 use Rattle.micro_cli.specs.Lines.{limit_of}
 use Rattle.micro_cli.specs.Words.{task_asked}
@@ -83,10 +87,19 @@ pub record SpellsFitting (task : BundleTask) (input : List ℕ) : Type 0 where
   pub spelt : Spells input bundle
   pub fits : Fits task bundle
 
+-- the part of the input before the line `journal` is short enough and spells a bundle, and the task takes it and the journal
+-- behind that line
+pub record SpellsJournal (task : JournalTask) (input : List ℕ) : Type 0 where
+  pub short : length (bundle_part input) ≤ LONGEST_BUNDLE
+  pub bundle : Bundle
+  pub spelt : Spells (bundle_part input) bundle
+  pub fits : FitsJournal task bundle (journal_part input)
+
 -- the input spells what the task reads, and nothing in it is a cause for which the task is refused
 abbrev pub Serves : Task → List ℕ → Type 0
 Serves (OfBundle task) input = SpellsFitting task input
 Serves (OfImage task) input = (m : Image) × SpellsImage input m
+Serves (OfJournal task) input = SpellsJournal task input
 
 -- nothing outside gives a cause for a refusal: the words ask for a task, no read or write fails, and the input is within
 -- the task's limit and one that it serves

@@ -1,11 +1,11 @@
 -- The lines of refusals.
 use Rattle.std.specs.Prelude.{ℕ, List, [], ◌∷◌, ◌++◌, decimal, codes}
-use Rattle.micro_isa.specs.declared.limits.TheConstants.{LONGEST_BUNDLE, LONGEST_IMAGE}
+use Rattle.micro_isa.specs.declared.limits.TheConstants.{LONGEST_BUNDLE, LONGEST_IMAGE, LONGEST_JOURNAL}
 use Rattle.asm_lines.specs.Faults.{At, kind_text}
 use Rattle.image_load.specs.declared.fault.ImageKind.{ImageKind}
 use Rattle.image_load.specs.Faults.{kind_text as image_kind_text}
 use Rattle.commands.specs.declared.task.Task.{Task}
-use Rattle.commands.specs.declared.task.Task.TheVariants.{OfBundle, OfImage}
+use Rattle.commands.specs.declared.task.Task.TheVariants.{OfBundle, OfImage, OfJournal}
 
 abbrev pub newline : List ℕ
 newline = 10 ∷ []
@@ -18,6 +18,7 @@ usage_line = codes "usage: micro COMMAND [NUMBER] [--steps N] [--order round|thr
 abbrev pub limit_of : Task → ℕ
 limit_of (OfBundle t) = LONGEST_BUNDLE
 limit_of (OfImage t) = LONGEST_IMAGE
+limit_of (OfJournal t) = LONGEST_JOURNAL
 
 -- `toolong LIMIT`
 abbrev pub too_long_line : ℕ → List ℕ

@@ -35,7 +35,8 @@ pub(crate) fn reply_to_text(alloc: Global, task: BundleTask, text: &[u8]) -> Res
     }
 }
 
-fn bad_bundle(alloc: Global, line: u32, kind: BundleKind) -> Result<Reply, NoMemory>
+/// The reply to a text with a first fault.
+pub(crate) fn bad_bundle(alloc: Global, line: u32, kind: BundleKind) -> Result<Reply, NoMemory>
     ensures { IfOk result (λ r. (r.status ≡ status.BadBundle) × (r.text.items ≡ bad_bundle_line (record { line = line; kind = kind }))) }
 {
     match bad_bundle_line(alloc, line, kind) {

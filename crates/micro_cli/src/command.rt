@@ -9,7 +9,8 @@ ghost use Rattle.micro_cli.specs.Lines.{usage_line, limit_of, too_long_line};
 
 use crate::bundle_replies::reply_to_text;
 use crate::image_replies::reply_to_image;
-use crate::lines::{limit_of, too_long_line, usage_line};
+use crate::journal_replies::reply_to_journal;
+use crate::lines::{limit_of, too_long, usage_line};
 use crate::words::task_asked;
 use commands::{Reply, Status, Task};
 use micro_isa::{LONGEST_IMAGE, NoMemory};
@@ -80,19 +81,6 @@ fn reply_to_input<I: Source>(alloc: Global, task: Task, input: &mut I) -> Result
     }
 }
 
-fn too_long(alloc: Global, limit: usize) -> Result<Reply, NoMemory>
-    requires { limit ≤ LONGEST_IMAGE }
-    ensures { IfOk result (λ r. (r.status ≡ status.TooLong) × (r.text.items ≡ too_long_line limit)) }
-{
-    match too_long_line(alloc, limit) {
-        Ok(text) => Ok(Reply {
-            status: Status::TooLong,
-            text,
-        }),
-        Err(NoMemory) => Err(NoMemory),
-    }
-}
-
 /// The reply to a whole input, which is read as what the task takes.
 fn reply_to_bytes(alloc: Global, task: Task, bytes: Vec<u8>) -> Result<Reply, NoMemory>
     requires short { length bytes.items ≤ limit_of task }
@@ -102,5 +90,6 @@ fn reply_to_bytes(alloc: Global, task: Task, bytes: Vec<u8>) -> Result<Reply, No
     match task {
         Task::OfBundle(task) => reply_to_text(alloc, task, &bytes),
         Task::OfImage(task) => reply_to_image(alloc, task, bytes),
+        Task::OfJournal(task) => reply_to_journal(alloc, task, &bytes),
     }
 }

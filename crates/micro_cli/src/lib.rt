@@ -5,6 +5,7 @@ mod bundle_replies;
 mod call;
 mod command;
 mod image_replies;
+mod journal_replies;
 mod lines;
 #[cfg(test)]
 mod tests;

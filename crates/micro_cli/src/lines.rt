@@ -1,12 +1,13 @@
 //! The lines of refusals.
 
 ghost use Rattle.std.specs.Prelude.{◌≡◌, ◌≤◌, ◌++◌, IfOk, OnOk};
+ghost use Rattle.commands.specs.declared.status.Status.TheVariants as status;
 ghost use Rattle.micro_cli.specs.Lines.{usage_line, limit_of, too_long_line, bad_bundle_line, bad_image_line};
 
 use asm_lines::{BundleKind, kind_text};
-use commands::Task;
+use commands::{Reply, Status, Task};
 use image_load::ImageKind;
-use micro_isa::{LONGEST_BUNDLE, LONGEST_IMAGE, NoMemory};
+use micro_isa::{LONGEST_BUNDLE, LONGEST_IMAGE, LONGEST_JOURNAL, NoMemory};
 use micro_kit::put_number;
 use std::alloc::Global;
 
@@ -27,10 +28,25 @@ pub(crate) fn limit_of(task: Task) -> usize
     match task {
         Task::OfBundle(_) => LONGEST_BUNDLE,
         Task::OfImage(_) => LONGEST_IMAGE,
+        Task::OfJournal(_) => LONGEST_JOURNAL,
     }
 }
 
-pub(crate) fn too_long_line(alloc: Global, limit: usize) -> Result<Vec<u8>, NoMemory>
+/// The reply to more bytes than a limit.
+pub(crate) fn too_long(alloc: Global, limit: usize) -> Result<Reply, NoMemory>
+    requires { limit ≤ LONGEST_IMAGE }
+    ensures { IfOk result (λ r. (r.status ≡ status.TooLong) × (r.text.items ≡ too_long_line limit)) }
+{
+    match too_long_line(alloc, limit) {
+        Ok(text) => Ok(Reply {
+            status: Status::TooLong,
+            text,
+        }),
+        Err(NoMemory) => Err(NoMemory),
+    }
+}
+
+fn too_long_line(alloc: Global, limit: usize) -> Result<Vec<u8>, NoMemory>
     requires { limit ≤ LONGEST_IMAGE }
     ensures { IfOk result (λ line. line.items ≡ too_long_line limit) }
 {

@@ -5,7 +5,7 @@ ghost use Rattle.commands.specs.Tells.{IsBounded};
 ghost use Rattle.micro_cli.specs.Words.{task_of, task_asked};
 
 use command_words::{Meaning, Turns, Verb, read_words};
-use commands::{BundleTask, ImageTask, Task};
+use commands::{BundleTask, ImageTask, JournalTask, Task};
 use micro_isa::NoMemory;
 use std::alloc::Global;
 
@@ -34,6 +34,7 @@ fn task_of(meaning: &Meaning) -> Option<Task>
         (Verb::Fmt, Turns::Round) => Some(Task::OfBundle(BundleTask::Format)),
         (Verb::Check, Turns::Round) => Some(Task::OfBundle(BundleTask::Check)),
         (Verb::Exec, Turns::Round) => Some(Task::OfImage(ImageTask::Exec { steps })),
+        (Verb::Replay, Turns::Round) => Some(Task::OfJournal(JournalTask::Replay { steps })),
         _ => None,
     }
 }
