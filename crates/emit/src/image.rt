@@ -10,6 +10,7 @@ use crate::layout::Layout;
 use crate::rows::number_at;
 use crate::words::context_words;
 use budget::Budget;
+use liveness::Live;
 use micro_isa::{Bundle, Code, Image, Line, List, NoMemory, Program, Range};
 use plan::Plan;
 use std::alloc::Global;
@@ -20,6 +21,7 @@ use std::alloc::Global;
 pub fn emit(
     alloc: Global,
     bundle: &Bundle,
+    _lives: &[Live],
     plans: &[Plan],
     budget: &Budget,
 ) -> Result<Image, NoMemory>

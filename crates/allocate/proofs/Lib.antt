@@ -1,0 +1,3 @@
+pub mod Zipping
+pub mod Once
+pub mod Rooming

@@ -1,0 +1,3 @@
+pub mod Needs
+pub mod Allocations
+pub mod Items
