@@ -13,10 +13,13 @@ use Rattle.semantics.specs.declared.Change.TheVariants.{Nothing, Register}
 use Rattle.semantics.specs.declared.Stopped.{Stopped}
 use Rattle.semantics.specs.declared.Effect.{Effect}
 use Rattle.semantics.specs.Effects.{SavedContext, divided, effect_of}
-use Rattle.semantics.specs.Stretches.{changed, after, received, effect_at, uncounted_on, uncounted, landed, settled, going_on, counted_from, stretch}
+use Rattle.semantics.specs.Stretches.{ActiveContext, changed, after, received, effect_at, uncounted_on, uncounted, landed, settled, going_on, counted_from, stretch}
 use Rattle.semantics.specs.Machine.{numbered_word, machine_kind}
 use Rattle.semantics.proofs.Waiting.{get-set_other}
-use Rattle.engine_core.specs.Steps.{Ran}
+
+-- a context that runs on the file
+abbrev pub Ran : Type 0
+Ran = ActiveContext PReg (List ℕ)
 
 -- registers that do not pass are as they were
 abbrev pub Keeps : (ℕ → Bool) → List ℕ → List ℕ → Type 0

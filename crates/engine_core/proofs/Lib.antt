@@ -1,4 +1,3 @@
-pub mod Settling
 pub mod Opening
 pub mod Confined
 pub mod SegmentLemmas

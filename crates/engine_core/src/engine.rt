@@ -5,16 +5,12 @@ ghost use Rattle.world.specs.declared.event.Event.TheVariants.{Run as RunOf, Fee
 ghost use Rattle.world.specs.declared.event.Seen.TheVariants.{Ran as RanOf, Fed as FedOf, Unplugged as UnpluggedOf};
 ghost use Rattle.semantics.specs.Core.{illegal_of, shown_core, some_runnable};
 ghost use Rattle.semantics.specs.Events.{fire, step};
-ghost use Rattle.semantics.specs.Stretches.{received};
-ghost use Rattle.semantics.specs.Machine.{Machine, machine_kind, machine_semantics, machine_open, words_of};
+ghost use Rattle.semantics.specs.Machine.{Machine, machine_semantics, machine_open, words_of};
 ghost use Rattle.engine_core.specs.EngineState.{config_of, IsSound, LeavesOthers};
-ghost use Rattle.engine_core.specs.Steps.{run_at};
 ghost use Rattle.run_state.specs.Segments.{GoesOn};
 
-use crate::place::ContextPlace;
-use crate::words::{advance, write};
 use micro_isa::{Image, NoMemory, PReg, Word};
-use run_state::{Interpreter, RunCore};
+use run_state::{ContextPlace, Interpreter, RegisterList, RunCore, segment};
 use std::alloc::Global;
 use std::marker::Model;
 use world::{End, Event, Illegal, Segment, View};
@@ -24,8 +20,8 @@ use world::{End, Event, Illegal, Segment, View};
 pub struct Engine {
     image: Image,
     core: RunCore,
-    file: Vec<u32>,
-    contexts: Vec<ContextPlace>,
+    file: RegisterList,
+    contexts: Vec<ContextPlace<PReg>>,
 }
 
 impl Model for Engine {
@@ -33,7 +29,7 @@ impl Model for Engine {
 
     ghost Value = { EngineState };
 
-    ghost view = { λ e. record { image = e.image; core = e.core; file = e.file.items; contexts = e.contexts.items } };
+    ghost view = { λ e. record { image = e.image; core = e.core; file = e.file; contexts = e.contexts.items } };
 
     ghost invariant = { λ e. IsSound e.image e.core e.contexts.items };
 }
@@ -61,7 +57,7 @@ impl Engine {
         ensures opening { IfOk result (λ engine. config_of engine ≡ machine_open image bound) }
     {
         let core = RunCore::open(alloc, &image.setting, image.contexts.len(), bound)?;
-        let file = zeros(alloc, image.file)?;
+        let file = RegisterList::zeros(alloc, image.file as usize)?;
         let contexts = starts(alloc, image.contexts.len())?;
         Ok(Engine {
             image,
@@ -175,16 +171,7 @@ impl Interpreter for Engine {
     }
 }
 
-fn zeros(alloc: Global, size: u32) -> Result<Vec<u32>, NoMemory>
-    ensures { IfOk result (λ file. file.items ≡ replicate size 0) }
-{
-    match vec![in alloc; 0; size as usize] {
-        Ok(file) => Ok(file),
-        Err(_) => Err(NoMemory),
-    }
-}
-
-fn starts(alloc: Global, contexts: usize) -> Result<Vec<ContextPlace>, NoMemory>
+fn starts(alloc: Global, contexts: usize) -> Result<Vec<ContextPlace<PReg>>, NoMemory>
     ensures { IfOk result (λ places. places.items ≡ replicate contexts (record { at = 0; pending = None })) }
 {
     let start = ContextPlace {
@@ -200,8 +187,8 @@ fn starts(alloc: Global, contexts: usize) -> Result<Vec<ContextPlace>, NoMemory>
 fn segment_of(
     image: &Image,
     core: &mut RunCore,
-    file: &mut [u32],
-    contexts: &mut [ContextPlace],
+    file: &mut RegisterList,
+    contexts: &mut [ContextPlace<PReg>],
     context: u32,
 ) -> Segment
     requires sound { IsSound image.now core.old contexts.old }
@@ -212,23 +199,8 @@ fn segment_of(
     ensures fire { fire (machine_semantics image.now) (config_of (record { image = image.now; core = core.old; file = file.old; contexts = contexts.old })) (RunOf context)
         ≡ (config_of (record { image = image.now; core = core.new; file = file.new; contexts = contexts.new }), RanOf result) }
 {
-    let done = core.complete(context);
-    let place = contexts[context as usize];
-    let pending = deliver(file, place.pending, done.received);
-    let left = core.steps_left();
     let words = words_of(image, context);
-    let memory = core.memory();
-    let ended = advance(context, words, file, memory, place.at, pending, left);
-    contexts[context as usize] = ContextPlace {
-        at: ended.at,
-        pending: ended.pending,
-    };
-    let end = core.finish(context, ended.steps, ended.why);
-    Segment {
-        steps: ended.steps,
-        end,
-        sent: done.sent,
-    }
+    segment(core, context, words, file, &mut contexts[context as usize])
 }
 
 fn words_of(image: &Image, context: u32) -> &[Word]
@@ -237,18 +209,5 @@ fn words_of(image: &Image, context: u32) -> &[Word]
     match image.contexts.get(context as usize) {
         Some(code) => code.words.as_slice(),
         None => &[],
-    }
-}
-
-/// Hands the word of a completion to the register that waits for it.
-fn deliver(file: &mut [u32], pending: Option<PReg>, word: Option<u32>) -> Option<PReg>
-    ensures { (at : ℕ) → run_at at file.new result ≡ received machine_kind pending word (run_at at file.old pending) }
-{
-    match (pending, word) {
-        (Some(register), Some(word)) => {
-            write(file, register, word);
-            None
-        }
-        _ => pending,
     }
 }

@@ -3,8 +3,5 @@
 #![tactic(auto)]
 
 mod engine;
-mod place;
-mod words;
 
 pub use engine::Engine;
-pub use place::ContextPlace;

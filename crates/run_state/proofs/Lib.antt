@@ -1,3 +1,5 @@
 pub mod Counting
 pub mod Memory
 pub mod Segments
+pub mod Running
+pub mod Putting

@@ -12,9 +12,14 @@ use Rattle.world.specs.declared.channel.ChannelKind.TheVariants.{Inner, Incoming
 use Rattle.world.specs.Channels.{ChannelState, with_word, without_head}
 use Rattle.world.specs.WorldState.{WorldState, sent_by, sent_at, changed_at, is_open_input, has_open_input}
 use Rattle.semantics.specs.declared.SegmentExit.{SegmentExit}
-use Rattle.semantics.specs.Core.{Core, is_cut, complete_phase, completed, finished, phase_after, illegal_of}
+use Rattle.world.specs.declared.event.Output.{Output}
+use Rattle.world.specs.declared.event.SegmentEnd.{SegmentEnd}
+use Rattle.world.specs.declared.event.Seen.TheVariants.{Ran}
+use Rattle.semantics.specs.Core.{Core, Completed, is_cut, complete_phase, completion, completed, steps_left, finished, phase_after, end_after, illegal_of}
+use Rattle.semantics.specs.Events.{after_stretch}
+use Rattle.semantics.specs.Stretches.{Kind, ActiveContext, received, stretch, stretch_of}
 use Rattle.semantics.proofs.Waiting.{legal}
-use Rattle.run_state.specs.Segments.{GoesOn}
+use Rattle.run_state.specs.Segments.{GoesOn, segment_of}
 
 -- a completion leaves the bound
 bound_by_kind : (kind : ChannelKind) (w : WorldState) (k word : ℕ) → (sent_by kind w k word).bound ≡ w.bound
@@ -92,3 +97,12 @@ goes_on core core1 core2 c steps left why done fin2 spends few fits = record {
 
     bound : core2.world.bound ≡ core1.world.bound
     bound = ap (λ k. k.world.bound) fin2
+
+-- what the interpreter does in a segment, step by step, is a segment of the context
+pub segment_is : {L R V : Type 0} (kind : Kind L R V) (core core1 core2 : Core) (c : ℕ) (code : List L) (x x1 : ActiveContext R V) (left : ℕ) (word : Option ℕ) (sent : Option Output) (x2 : ActiveContext R V) (steps : ℕ) (why : SegmentExit) (fin : SegmentEnd) (memory : List ℕ) → memory ≡ core1.world.memory → fin ≡ end_after core1.world.memory why → completion core c ≡ record { received = word; sent = sent; world = core1.world } → core1 ≡ completed core c → x1 ≡ received kind x.kept.pending word x → left ≡ steps_left core1 → record { state = x2; steps = steps; why = why } ≡ stretch kind c memory code left x1 → core2 ≡ finished core1 c steps why → segment_of kind c code core x ≡ (record { core = core2; state = x2 }, Ran (record { steps = steps; end = fin; sent = sent }))
+segment_is kind core core1 core2 c code x x1 left word sent x2 steps why fin memory is_memory fin_is done core1_is delivered is_left went fin2 =
+    let after : Completed = record { received = word; sent = sent; world = core1.world } in
+    (λ i. after_stretch (sym core1_is i) c (done i) (stretch_of kind c code (record { word = (done i).received; memory = (sym core1_is i).world.memory; left = (ap steps_left (sym core1_is) ∙ sym is_left) i }) x))
+    ∙ (λ i. after_stretch core1 c after (stretch kind c (sym is_memory i) code left (sym delivered i)))
+    ∙ ap (after_stretch core1 c after) (sym went)
+    ∙ (λ i. (record { core = sym fin2 i; state = x2 }, Ran (record { steps = steps; end = sym fin_is i; sent = sent })))

@@ -14,7 +14,7 @@ use world::{End, Event, Illegal, Output, Phase, SegmentEnd, View, World};
 /// What a completion gave: the word that goes to the pending register, and the word that was put
 /// out.
 #[derive(Clone, Copy, Debug, PartialEq, Eq)]
-pub struct Completion {
+pub(crate) struct Completion {
     pub received: Option<u32>,
     pub sent: Option<Output>,
 }
@@ -122,7 +122,7 @@ impl RunCore {
     }
 
     /// The steps that are left.
-    pub fn steps_left(&self) -> u32
+    pub(crate) fn steps_left(&self) -> u32
         ensures left { result ≡ steps_left self.now }
         ensures fits { self.now.steps + result ≡ self.now.world.bound }
     {
@@ -130,14 +130,14 @@ impl RunCore {
     }
 
     /// The words of memory.
-    pub fn memory(&self) -> &[u32]
+    pub(crate) fn memory(&self) -> &[u32]
         ensures { result.now ≡ self.now.world.memory }
     {
         self.world.memory()
     }
 
     /// Does what a context waits for.
-    pub fn complete(&mut self, context: u32) -> Completion
+    pub(crate) fn complete(&mut self, context: u32) -> Completion
         requires { illegal_of self.old (RunOf context) ≡ None }
         ensures gives { completion self.old context ≡ record { received = result.received; sent = result.sent; world = self.new.world } }
         ensures core { self.new ≡ completed self.old context }
@@ -201,7 +201,7 @@ impl RunCore {
 
     /// Does what a stretch of instructions ended with.
     #[tactic(auto, using(crate::proofs::Counting::set_more, crate::proofs::Counting::sends_spent))]
-    pub fn finish(&mut self, context: u32, steps: u32, why: SegmentExit) -> SegmentEnd
+    pub(crate) fn finish(&mut self, context: u32, steps: u32, why: SegmentExit) -> SegmentEnd
         requires there { context < length self.old.phases }
         requires left { self.old.steps + steps ≤ self.old.world.bound }
         requires spent { is_cut why ≡ false → 1 ≤ steps }

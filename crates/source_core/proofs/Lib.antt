@@ -1,4 +1,3 @@
-pub mod Putting
 pub mod SegmentLemmas
 pub mod Opening
 pub mod Ports

@@ -1,20 +1,21 @@
 -- An interpreter is sound at its opening.
-use Rattle.std.proofs.Common.{◌≡◌, ℕ, zero, suc, ◌<◌, ◌≤◌, List, [], ◌∷◌, length, Some, None, Bool, true, false, refl, sym, ap, ◌∙◌, subst, arith, replicate, map}
-use Rattle.std.specs.Prelude.{slice_get, slice_index, ◌&&◌, nat_lt}
+use Rattle.std.proofs.Common.{◌≡◌, ℕ, zero, suc, ◌<◌, ◌≤◌, List, [], ◌∷◌, length, Option, Some, None, Bool, true, false, refl, sym, ap, ◌∙◌, subst, arith, replicate, map}
+use Rattle.std.specs.Prelude.{slice_get, slice_index, ◌&&◌, IfSome}
 use Rattle.std.proofs.lemmas.Bool.{ltb-true}
 use Rattle.std.proofs.lemmas.List.{length-replicate, length-map}
 use Rattle.micro_isa.specs.declared.instr.Instr.{Instr}
-use Rattle.micro_isa.specs.declared.instr.Instr.TheVariants.{Li, Mov, Alu, Div, Ctx, Jmp, Branch, Load, Store, Yield, Recv, Send, Halt}
 use Rattle.micro_isa.specs.declared.program.VReg.{VReg}
 use Rattle.micro_isa.specs.declared.program.Program.{Program}
 use Rattle.micro_isa.specs.declared.program.Bundle.{Bundle}
-use Rattle.micro_isa.specs.Formed.{all_below, option_below, target_of, names_below, IsFormedProgram, IsFormedBundle}
+use Rattle.std.specs.List.{cons_option}
+use Rattle.micro_isa.specs.Operands.{operands_of}
+use Rattle.micro_isa.specs.Formed.{all_below, option_below, registers_in, target_of, names_below, IsFormedProgram, IsFormedBundle}
 use Rattle.world.specs.declared.event.Phase.TheVariants.{Ready}
-use Rattle.semantics.specs.Source.{source_open}
+use Rattle.semantics.specs.Source.{numbered_line, source_open}
 use Rattle.semantics.specs.Core.{Core, opening_core}
 use Rattle.source_core.specs.declared.context.ContextState.{ContextState}
-use Rattle.source_core.specs.Steps.{IsNamed, AllNamed}
-use Rattle.source_core.specs.SourceState.{context_of, start_of, config_of, IsContext, IsSound}
+use Rattle.run_state.specs.Running.{CanRunOne, CanRun}
+use Rattle.source_core.specs.SourceState.{context_of, start_of, config_of, is_there, IsContext, IsSound}
 
 first : (a b : Bool) → (a && b) ≡ true → a ≡ true
 first true b h = refl
@@ -24,34 +25,32 @@ both : (a b : Bool) → (a && b) ≡ true → b ≡ true
 both true b h = h
 both false b h = absurd (cc)
 
--- the register that stands first in an instruction's text is there
-head_below : (n x : ℕ) (xs : List ℕ) (b : Bool) → (all_below n (x ∷ xs) && b) ≡ true → x < n
-head_below n x xs b h = ltb-true x n (first (nat_lt x n) (all_below n xs) (first (all_below n (x ∷ xs)) b h))
+-- the register that an instruction writes stands among those that it names
+written_there : (n : ℕ) (o : Option VReg) (rest : List VReg) → all_below n (map (λ r. r.0) (cons_option o rest)) ≡ true → IfSome o (λ r. is_there n r ≡ true)
+written_there n None rest h = tt
+written_there n (Some r) rest h = first (is_there n r) (all_below n (map (λ q. q.0) rest)) h
 
-named_within : (n size : ℕ) (i : Instr VReg) → names_below (λ r. r.0) n size i ≡ true → IsNamed n size i
-named_within n size (Li to k) h = head_below n to.0 [] (option_below size (target_of (Li to k))) h
-named_within n size (Mov to from) h = head_below n to.0 (from.0 ∷ []) true h
-named_within n size (Alu op to a b) h = head_below n to.0 (a.0 ∷ b.0 ∷ []) true h
-named_within n size (Div op to a b) h = head_below n to.0 (a.0 ∷ b.0 ∷ []) true h
-named_within n size (Ctx to) h = head_below n to.0 [] true h
-named_within n size (Jmp target) h = ltb-true target size (both (all_below n []) (nat_lt target size) h)
-named_within n size (Branch test a b target) h = ltb-true target size (both (all_below n (a.0 ∷ b.0 ∷ [])) (nat_lt target size) h)
-named_within n size (Load to address) h = head_below n to.0 (address.0 ∷ []) true h
-named_within n size (Store address from) h = tt
-named_within n size Yield h = tt
-named_within n size (Recv to channel) h = head_below n to.0 [] true h
-named_within n size (Send channel from) h = tt
-named_within n size Halt h = tt
+target_below : (size : ℕ) (o : Option ℕ) → option_below size o ≡ true → IfSome o (λ target. target < size)
+target_below size None h = tt
+target_below size (Some target) h = ltb-true target size h
 
-formed_named : (p : Program) → IsFormedProgram p → AllNamed (length p.registers) p.code
-formed_named p formed = record { at = λ i l is. named_within (length p.registers) (length p.code) l.instr (formed.named i l is) }
+can_run : (n size : ℕ) (i : Instr VReg) → names_below (λ r. r.0) n size i ≡ true → CanRunOne (is_there n) size i
+can_run n size i h =
+    let x = operands_of i in record {
+      written = written_there n x.to (cons_option x.a (cons_option x.b [])) (first (all_below n (map (λ r. r.0) (registers_in i))) (option_below size (target_of i)) h);
+      target = target_below size (target_of i) (both (all_below n (map (λ r. r.0) (registers_in i))) (option_below size (target_of i)) h);
+    }
+
+formed_runs : (p : Program) → IsFormedProgram p → CanRun numbered_line (is_there (length p.registers)) p.code
+formed_runs p formed = record {
+  few = omega (arith, formed.few);
+  each = λ i l is. can_run (length p.registers) (length p.code) l.instr (formed.named i l is);
+}
 
 start_placed : (p : Program) → IsFormedProgram p → IsContext p.code (start_of p)
 start_placed p formed = record {
-  few = omega (arith, formed.few);
-  named = subst (λ n. AllNamed n p.code) (sym (length-replicate (length p.registers) 0)) (formed_named p formed);
-  within = omega arith;
-  pending = tt;
+  runs = subst (λ n. CanRun numbered_line (is_there n) p.code) (sym (length-replicate (length p.registers) 0)) (formed_runs p formed);
+  placed = record { within = omega arith; pending = tt };
 }
 
 start_at : (ps : List Program) (c : ℕ) (p : Program) (x : ContextState) → slice_get ps c ≡ Some p → slice_get (map start_of ps) c ≡ Some x → start_of p ≡ x

@@ -7,19 +7,17 @@ use Rattle.std.proofs.lemmas.List.{length-set}
 use Rattle.micro_isa.specs.declared.program.Line.{Line}
 use Rattle.micro_isa.specs.declared.program.Program.{Program}
 use Rattle.micro_isa.specs.declared.program.Bundle.{Bundle}
-use Rattle.world.specs.declared.event.SegmentEnd.{SegmentEnd}
-use Rattle.world.specs.declared.event.Output.{Output}
 use Rattle.world.specs.declared.event.Event.TheVariants.{Run}
-use Rattle.world.specs.declared.event.Seen.TheVariants.{Ran}
-use Rattle.semantics.specs.Core.{Core, Completed, completion, completed, finished, end_after, steps_left, illegal_of}
-use Rattle.semantics.specs.Events.{after_stretch, fire}
+use Rattle.world.specs.declared.event.Seen.{Seen}
+use Rattle.semantics.specs.Core.{Core, completion, completed, illegal_of}
+use Rattle.semantics.specs.Events.{given, after_stretch, fire}
 use Rattle.semantics.specs.Stretches.{stretch_in, stretch_of}
 use Rattle.semantics.specs.Source.{Contexts, code_of, code_in, with_context, source_kind, source_semantics}
 use Rattle.semantics.proofs.Waiting.{get-set_same, get-set_other}
 use Rattle.run_state.proofs.Segments.{is_there}
 use Rattle.source_core.specs.declared.context.ContextState.{ContextState}
-use Rattle.source_core.specs.declared.context.Spent.{Spent}
-use Rattle.source_core.specs.SourceState.{seen_context, context_of, stretched, config_of, IsContext, IsSound}
+use Rattle.run_state.specs.Segments.{segment_of}
+use Rattle.source_core.specs.SourceState.{seen_context, context_of, config_of, IsContext, IsSound}
 
 -- the contexts after a write are the contexts with one replaced
 context_after : (xs : List ContextState) (c : ℕ) (x : ContextState) → c < length xs → (d : ℕ) (b : Bool) → (d == c) ≡ b → (if b then seen_context x else context_of (slice_get xs d)) ≡ context_of (slice_get (slice_set xs c x) d)
@@ -27,16 +25,14 @@ context_after xs c x lt d true is =
     ap context_of (sym (get-set_same xs c x lt)) ∙ ap (λ e. context_of (slice_get (slice_set xs c x) e)) (sym (eqb-true d c is))
 context_after xs c x lt d false is = ap context_of (sym (get-set_other xs c d x (eqb-false d c is)))
 
--- what the interpreter does in a segment, step by step, is what happens to the source run
-pub segment_is : (bundle : Bundle) (core core1 core2 : Core) (xs : List ContextState) (c left : ℕ) (x x' : ContextState) (code : List Line) (word : Option ℕ) (sent : Option Output) (spent : Spent) (fin : SegmentEnd) (memory : List ℕ) → memory ≡ core1.world.memory → fin ≡ end_after core1.world.memory spent.why → completion core c ≡ record { received = word; sent = sent; world = core1.world } → core1 ≡ completed core c → slice_get xs c ≡ Some x → code_of bundle c ≡ code → left ≡ steps_left core1 → stretched x' spent ≡ stretch_of source_kind c code (record { word = word; memory = memory; left = left }) (seen_context x) → core2 ≡ finished core1 c spent.steps spent.why → fire (source_semantics bundle) (config_of (record { bundle = bundle; core = core; contexts = xs })) (Run c) ≡ (config_of (record { bundle = bundle; core = core2; contexts = slice_set xs c x' }), Ran (record { steps = spent.steps; end = fin; sent = sent }))
-segment_is bundle core core1 core2 xs c left x x' code word sent spent fin memory is_memory fin_is done core1_is at is_code is_left went fin2 =
+-- a segment of a context is what happens to the source run
+pub segment_is : (bundle : Bundle) (core core2 : Core) (xs : List ContextState) (c : ℕ) (x x2 : ContextState) (code : List Line) (seen : Seen) → slice_get xs c ≡ Some x → code_of bundle c ≡ code → segment_of source_kind c code core (seen_context x) ≡ (record { core = core2; state = seen_context x2 }, seen) → fire (source_semantics bundle) (config_of (record { bundle = bundle; core = core; contexts = xs })) (Run c) ≡ (config_of (record { bundle = bundle; core = core2; contexts = slice_set xs c x2 }), seen)
+segment_is bundle core core2 xs c x x2 code seen at is_code went =
     let st : Contexts = λ d. context_of (slice_get xs d) in
-    let after : Completed = record { received = word; sent = sent; world = core1.world } in
     let lt = slice_get_within xs c x at in
-    (λ i. after_stretch (sym core1_is i) c (done i) (source_semantics bundle st c (record { word = (done i).received; memory = (sym core1_is i).world.memory; left = (ap steps_left (sym core1_is) ∙ sym is_left) i })))
-    ∙ (λ i. after_stretch core1 c after (stretch_in (with_context st c) (stretch_of source_kind c (is_code i) (record { word = word; memory = sym is_memory i; left = left }) (context_of (at i)))))
-    ∙ ap (λ g. after_stretch core1 c after (stretch_in (with_context st c) g)) (sym went)
-    ∙ (λ i. (record { core = sym fin2 i; state = λ d. context_after xs c x' lt d (d == c) refl i }, Ran (record { steps = spent.steps; end = sym fin_is i; sent = sent })))
+    (λ i. after_stretch (completed core c) c (completion core c) (stretch_in (with_context st c) (stretch_of source_kind c (is_code i) (given core c) (context_of (at i)))))
+    ∙ (λ i. (record { core = (went i).0.core; state = with_context st c (went i).0.state }, (went i).1))
+    ∙ (λ i. (record { core = core2; state = λ d. context_after xs c x2 lt d (d == c) refl i }, seen))
 
 -- the interpreter stays sound where a context does
 pub stays_sound : (bundle : Bundle) (core core' : Core) (xs : List ContextState) (c : ℕ) (x0 x : ContextState) → IsSound bundle core xs → slice_get xs c ≡ Some x0 → length core'.phases ≡ length core.phases → ((p : Program) → slice_get bundle.programs c ≡ Some p → IsContext p.code x) → IsSound bundle core' (slice_set xs c x)

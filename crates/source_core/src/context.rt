@@ -1,78 +1,36 @@
 //! One context: what it keeps between its segments, and what it does in one.
 
-ghost use Rattle.std.specs.Prelude.{◌≡◌, ◌<◌, ◌≤◌, ℕ, false, length, IfSome, Option};
-ghost use Rattle.semantics.specs.Core.{is_cut};
-ghost use Rattle.semantics.specs.Stretches.{received, stretch_of};
+ghost use Rattle.std.specs.Prelude.{◌≡◌, None};
+ghost use Rattle.world.specs.declared.event.Event.TheVariants.{Run as RunOf};
+ghost use Rattle.world.specs.declared.event.Seen.TheVariants.{Ran as RanOf};
+ghost use Rattle.semantics.specs.Core.{illegal_of};
 ghost use Rattle.semantics.specs.Source.{source_kind};
-ghost use Rattle.source_core.specs.Steps.{context_at};
-ghost use Rattle.source_core.specs.SourceState.{seen_context, stretched, IsContext};
+ghost use Rattle.run_state.specs.Segments.{GoesOn, segment_of};
+ghost use Rattle.source_core.specs.SourceState.{seen_context, IsContext};
 
-use crate::instructions::stretch;
-use crate::registers::Registers;
 use micro_isa::{Line, VReg};
-use semantics::SegmentExit;
+use run_state::{ContextPlace, RegisterList, RunCore, segment};
+use world::Segment;
 
-/// Where a context stands, its registers, and the one that the word of its completion goes to.
+/// Where a context stands, the register that the word of its completion goes to, and its registers.
 #[derive(Debug, Drop)]
 pub struct ContextState {
-    pub at: u32,
-    pub registers: Registers,
-    pub pending: Option<VReg>,
+    pub place: ContextPlace<VReg>,
+    pub registers: RegisterList,
 }
 
-/// The steps that a segment spent, and why it ended.
-#[derive(Clone, Copy, Debug, PartialEq, Eq)]
-pub(crate) struct Spent {
-    pub steps: u32,
-    pub why: SegmentExit,
-}
-
-/// Hands over the word of a completion, and goes on to the next stop.
+/// One segment of a context that may run.
 pub(crate) fn go_on(
+    core: &mut RunCore,
     context: u32,
     code: &[Line],
     state: &mut ContextState,
-    word: Option<u32>,
-    memory: &[u32],
-    left: u32,
-) -> Spent
-    requires { IsContext code.now state.old }
+) -> Segment
+    requires legal { illegal_of core.old (RunOf context) ≡ None }
+    requires context { IsContext code.now state.old }
     ensures context { IsContext code.now state.new }
-    ensures bounded { result.steps ≤ left }
-    ensures spent { is_cut result.why ≡ false → 1 ≤ result.steps }
-    ensures stretched { stretched state.new result ≡ stretch_of source_kind context code.now (record { word = word; memory = memory.now; left = left }) (seen_context state.old) }
+    ensures goes_on { GoesOn core.old core.new }
+    ensures segment { segment_of source_kind context code.now core.old (seen_context state.old) ≡ (record { core = core.new; state = seen_context state.new }, RanOf result) }
 {
-    let pending = deliver(&mut state.registers, state.pending, word);
-    let ended = stretch(
-        context,
-        code,
-        &mut state.registers,
-        memory,
-        state.at,
-        pending,
-        left,
-    );
-    state.at = ended.at;
-    state.pending = ended.pending;
-    Spent {
-        steps: ended.steps,
-        why: ended.why,
-    }
-}
-
-/// Hands the word of a completion to the register that waits for it.
-#[tactic(auto, using(crate::proofs::Putting::one_put))]
-fn deliver(registers: &mut Registers, pending: Option<VReg>, word: Option<u32>) -> Option<VReg>
-    requires { IfSome pending (λ r. r.0 < length registers.old) }
-    ensures size { length registers.new ≡ length registers.old }
-    ensures pending { IfSome result (λ r. r.0 < length registers.new) }
-    ensures delivered { (at : ℕ) → context_at at registers.new result ≡ received source_kind pending word (context_at at registers.old pending) }
-{
-    match (pending, word) {
-        (Some(register), Some(word)) => {
-            registers.write(register, word);
-            None
-        }
-        _ => pending,
-    }
+    segment(core, context, code, &mut state.registers, &mut state.place)
 }

@@ -2,10 +2,7 @@
 #![tactic(auto)]
 
 mod context;
-mod instructions;
-mod registers;
 mod source_run;
 
 pub use context::ContextState;
-pub use registers::Registers;
 pub use source_run::SourceRun;

@@ -10,9 +10,8 @@ ghost use Rattle.run_state.specs.Segments.{GoesOn};
 ghost use Rattle.source_core.specs.SourceState.{config_of, start_of, IsSound};
 
 use crate::context::{ContextState, go_on};
-use crate::registers::Registers;
 use micro_isa::{Bundle, Line, NoMemory, Program};
-use run_state::{Interpreter, RunCore};
+use run_state::{ContextPlace, Interpreter, RegisterList, RunCore};
 use std::alloc::Global;
 use std::marker::Model;
 use world::{End, Event, Illegal, Seen, Segment, View};
@@ -148,12 +147,12 @@ fn starts(alloc: Global, programs: &[Program]) -> Result<Vec<ContextState>, NoMe
 {
     let mut contexts = Vec::new(alloc);
     for program in programs {
-        let registers = Registers::zeros(alloc, program.registers.len())?;
-        let start = ContextState {
+        let registers = RegisterList::zeros(alloc, program.registers.len())?;
+        let place = ContextPlace {
             at: 0,
-            registers,
             pending: None,
         };
+        let start = ContextState { place, registers };
         if contexts.push(start).is_err() {
             return Err(NoMemory);
         }
@@ -174,24 +173,8 @@ fn segment_of(
     ensures fire { fire (source_semantics bundle.now) (config_of (record { bundle = bundle.now; core = core.old; contexts = contexts.old })) (RunOf context)
         ≡ (config_of (record { bundle = bundle.now; core = core.new; contexts = contexts.new }), RanOf result) }
 {
-    let done = core.complete(context);
-    let left = core.steps_left();
     let code = code_of(bundle, context);
-    let memory = core.memory();
-    let gone = go_on(
-        context,
-        code,
-        &mut contexts[context as usize],
-        done.received,
-        memory,
-        left,
-    );
-    let end = core.finish(context, gone.steps, gone.why);
-    Segment {
-        steps: gone.steps,
-        end,
-        sent: done.sent,
-    }
+    go_on(core, context, code, &mut contexts[context as usize])
 }
 
 fn code_of(bundle: &Bundle, context: u32) -> &[Line]
