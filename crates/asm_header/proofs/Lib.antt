@@ -1,4 +1,5 @@
 pub mod Filling
+pub mod Free
 pub mod Ports
 pub mod Reading
 pub mod Sounding

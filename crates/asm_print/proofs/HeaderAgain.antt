@@ -22,11 +22,11 @@ use Rattle.asm_lines.specs.Numbers.{number_or, is_no_number}
 use Rattle.asm_lines.specs.Tables.{knows, place_of, declare, misnamed}
 use Rattle.asm_header.specs.Forms as form
 use Rattle.asm_header.specs.Headers.{Header, no_header, with_line, filled, replaced, filled_at}
-use Rattle.asm_header.specs.Faults.{is_from, is_bad_port, is_input, form_tests, line_fault, faults_after}
+use Rattle.asm_header.specs.Faults.{is_from, is_bad_port, is_input, line_fault, faults_after}
 use Rattle.asm_print.specs.Canonical.{words_rows, input_row, channel_rows, channels_rows, header_rows}
 use Rattle.asm_print.proofs.Plain.{row_words, lines_with}
 use Rattle.asm_print.specs.Typed.{WordsFit, IsTyped}
-use Rattle.asm_lines.proofs.First.{no_kind}
+use Rattle.asm_header.proofs.Free.{no_fault}
 use Rattle.asm_print.proofs.Lines.{lines-append}
 use Rattle.asm_print.proofs.Tables.{fresh, fresh_number, declare_new, distinct_front, place_is, known_at}
 use Rattle.asm_print.proofs.Words.{number_is, number_there}
@@ -132,15 +132,35 @@ module _ (file memory n words : ℕ) (names : Words) (channels : List Channel) (
       let a = ring_bounds size e in
       let s : size < 2 ^ 32 = omega arith in
       one_line _ _ _
-      (no_kind (form_tests (so_far file memory names channels words) true (form.Inner name (decimal size)))
-      (refl, (refl, (refl, (named_one name room.named, (one_number size s, (ring_fits size (length names) e room.few, (refl, (new_name names name room.new, (refl, (refl, tt)))))))))))
+      (no_fault (so_far file memory names channels words) true (form.Inner name (decimal size)) (record {
+        byte = refl;
+        directive = refl;
+        operands = refl;
+        name = named_one name room.named;
+        number = one_number size s;
+        limit = ring_fits size (length names) e room.few;
+        port = refl;
+        repeated = new_name names name room.new;
+        channel_unknown = refl;
+        channel_kind = refl;
+      }))
       (ap (λ (k : ℕ). so_far file memory (declare names name) (channels ++ channel.Inner k ∷ []) words) (number_is size s) ∙ named_so (channel.Inner size))
 
   input_line : Leads (so_far file memory names channels words) (line n (codes "input" ∷ name ∷ []) ∷ []) (so_far file memory (names ++ name ∷ []) (channels ++ channel.Input [] None ∷ []) words)
   input_line =
       one_line _ _ _
-      (no_kind (form_tests (so_far file memory names channels words) true (form.Input name))
-      (refl, (refl, (refl, (named_one name room.named, (refl, (no_ring_fits (length names) room.few, (refl, (new_name names name room.new, (refl, (refl, tt)))))))))))
+      (no_fault (so_far file memory names channels words) true (form.Input name) (record {
+        byte = refl;
+        directive = refl;
+        operands = refl;
+        name = named_one name room.named;
+        number = refl;
+        limit = no_ring_fits (length names) room.few;
+        port = refl;
+        repeated = new_name names name room.new;
+        channel_unknown = refl;
+        channel_kind = refl;
+      }))
       (named_so (channel.Input [] None))
 
   port_input_line : (port : PortUse) (later : List ℕ) → is_ring_size port.capacity ≡ true → port.number < MOST_PORTS → is_distinct nat_eq (filter_map port_of channels ++ port.number ∷ later) ≡ true
@@ -150,8 +170,18 @@ module _ (file memory n words : ℕ) (names : Words) (channels : List Channel) (
       let s : port.capacity < 2 ^ 32 = omega arith in
       let t : port.number < 2 ^ 32 = omega arith in
       one_line _ _ _
-      (no_kind (form_tests (so_far file memory names channels words) true (form.PortInput name (decimal port.number) (decimal port.capacity)))
-      (refl, (refl, (refl, (named_one name room.named, (two_numbers port.number port.capacity t s, (ring_fits port.capacity (length names) e room.few, (port_fits channels port.number later h d, (new_name names name room.new, (refl, (refl, tt)))))))))))
+      (no_fault (so_far file memory names channels words) true (form.PortInput name (decimal port.number) (decimal port.capacity)) (record {
+        byte = refl;
+        directive = refl;
+        operands = refl;
+        name = named_one name room.named;
+        number = two_numbers port.number port.capacity t s;
+        limit = ring_fits port.capacity (length names) e room.few;
+        port = port_fits channels port.number later h d;
+        repeated = new_name names name room.new;
+        channel_unknown = refl;
+        channel_kind = refl;
+      }))
       (ap (λ (k : ℕ). so_far file memory (declare names name) (channels ++ channel.Input [] (Some (record { number = k; capacity = number_or (decimal port.capacity) })) ∷ []) words) (number_is port.number t)
       ∙ ap (λ (k : ℕ). so_far file memory (declare names name) (channels ++ channel.Input [] (Some (record { number = port.number; capacity = k })) ∷ []) words) (number_is port.capacity s)
       ∙ named_so (channel.Input [] (Some port)))
@@ -159,8 +189,18 @@ module _ (file memory n words : ℕ) (names : Words) (channels : List Channel) (
   output_line : Leads (so_far file memory names channels words) (line n (codes "output" ∷ name ∷ []) ∷ []) (so_far file memory (names ++ name ∷ []) (channels ++ channel.Output None ∷ []) words)
   output_line =
       one_line _ _ _
-      (no_kind (form_tests (so_far file memory names channels words) true (form.Output name))
-      (refl, (refl, (refl, (named_one name room.named, (refl, (no_ring_fits (length names) room.few, (refl, (new_name names name room.new, (refl, (refl, tt)))))))))))
+      (no_fault (so_far file memory names channels words) true (form.Output name) (record {
+        byte = refl;
+        directive = refl;
+        operands = refl;
+        name = named_one name room.named;
+        number = refl;
+        limit = no_ring_fits (length names) room.few;
+        port = refl;
+        repeated = new_name names name room.new;
+        channel_unknown = refl;
+        channel_kind = refl;
+      }))
       (named_so (channel.Output None))
 
   port_output_line : (port : ℕ) (later : List ℕ) → port < MOST_PORTS → is_distinct nat_eq (filter_map port_of channels ++ port ∷ later) ≡ true
@@ -168,8 +208,18 @@ module _ (file memory n words : ℕ) (names : Words) (channels : List Channel) (
   port_output_line port later h d =
       let t : port < 2 ^ 32 = omega arith in
       one_line _ _ _
-      (no_kind (form_tests (so_far file memory names channels words) true (form.PortOutput name (decimal port)))
-      (refl, (refl, (refl, (named_one name room.named, (one_number port t, (no_ring_fits (length names) room.few, (port_fits channels port later h d, (new_name names name room.new, (refl, (refl, tt)))))))))))
+      (no_fault (so_far file memory names channels words) true (form.PortOutput name (decimal port)) (record {
+        byte = refl;
+        directive = refl;
+        operands = refl;
+        name = named_one name room.named;
+        number = one_number port t;
+        limit = no_ring_fits (length names) room.few;
+        port = port_fits channels port later h d;
+        repeated = new_name names name room.new;
+        channel_unknown = refl;
+        channel_kind = refl;
+      }))
       (ap (λ (k : ℕ). so_far file memory (declare names name) (channels ++ channel.Output (Some k) ∷ []) words) (number_is port t)
       ∙ named_so (channel.Output (Some port)))
 
@@ -218,37 +268,18 @@ initial_line file memory n words names channels name port x xs named same distin
     let at : place_of (names ++ name ∷ []) name ≡ length channels = place_last names name distinct ∙ same in
     let long : length (map decimal (x ∷ xs)) ≡ length (x ∷ xs) = length-map (x ∷ xs) decimal in
     one_line _ _ _
-    (no_kind (form_tests (so_far file memory (names ++ name ∷ []) (channels ++ channel.Input [] port ∷ []) words) true (form.Initial name (map decimal (x ∷ xs)))) (
-      refl,
-      (
-        refl,
-        (
-          refl,
-          (
-            named_other name named,
-            (
-              all_numbers (x ∷ xs) fits,
-              (
-                ap (λ (b : Bool). b || false) (le-ltb MOST_INITIAL_WORDS (words + length (map decimal (x ∷ xs))) (omega arith)),
-                (
-                  refl,
-                  (
-                    refl,
-                    (
-                      ap (λ (b : Bool). not b || false) (knows_last names name),
-                      (
-                        ap (λ (k : ℕ). not (is_input (slice_get (channels ++ channel.Input [] port ∷ []) k)) || false) at ∙ input_last channels (channel.Input [] port) refl,
-                        tt,
-                      ),
-                    ),
-                  ),
-                ),
-              ),
-            ),
-          ),
-        ),
-      ),
-    ))
+    (no_fault (so_far file memory (names ++ name ∷ []) (channels ++ channel.Input [] port ∷ []) words) true (form.Initial name (map decimal (x ∷ xs))) (record {
+      byte = refl;
+      directive = refl;
+      operands = refl;
+      name = named_other name named;
+      number = all_numbers (x ∷ xs) fits;
+      limit = ap (λ (b : Bool). b || false) (le-ltb MOST_INITIAL_WORDS (words + length (map decimal (x ∷ xs))) (omega arith));
+      port = refl;
+      repeated = refl;
+      channel_unknown = ap (λ (b : Bool). not b || false) (knows_last names name);
+      channel_kind = ap (λ (k : ℕ). not (is_input (slice_get (channels ++ channel.Input [] port ∷ []) k)) || false) at ∙ input_last channels (channel.Input [] port) refl;
+    }))
     (ap (λ (k : ℕ). so_far file memory (names ++ name ∷ []) (filled_at (channels ++ channel.Input [] port ∷ []) k (map number_or (map decimal (x ∷ xs)))) (words + length (map decimal (x ∷ xs)))) at
     ∙ ap (λ (ns : List ℕ). so_far file memory (names ++ name ∷ []) (filled_at (channels ++ channel.Input [] port ∷ []) (length channels) ns) (words + length (map decimal (x ∷ xs)))) (numbers_again (x ∷ xs) fits)
     ∙ ap (λ (cs : List Channel). so_far file memory (names ++ name ∷ []) cs (words + length (map decimal (x ∷ xs)))) (filled_last channels (channel.Input [] port) (x ∷ xs))
@@ -364,16 +395,36 @@ file_line : (n file : ℕ) → 1 ≤ file → file ≤ MOST_FILE → Leads no_he
 file_line n file some few =
     let s : file < 2 ^ 32 = omega arith in
     one_line _ _ _
-    (no_kind (form_tests no_header true (form.File (decimal file)))
-    (refl, (refl, (refl, (refl, (one_number file s, (ap (λ (b : Bool). b || (false || false)) (within 1 MOST_FILE file s some few), (refl, (refl, (refl, (refl, tt)))))))))))
+    (no_fault no_header true (form.File (decimal file)) (record {
+      byte = refl;
+      directive = refl;
+      operands = refl;
+      name = refl;
+      number = one_number file s;
+      limit = ap (λ (b : Bool). b || (false || false)) (within 1 MOST_FILE file s some few);
+      port = refl;
+      repeated = refl;
+      channel_unknown = refl;
+      channel_kind = refl;
+    }))
     (ap (λ (k : ℕ). record { file = Some k; memory = None; names = []; channels = []; words = 0 }) (number_is file s))
 
 memory_line : (n file memory : ℕ) → memory ≤ MOST_MEMORY → Leads (record { file = Some file; memory = None; names = []; channels = []; words = 0 }) (line n (codes "memory" ∷ decimal memory ∷ []) ∷ []) (so_far file memory [] [] 0)
 memory_line n file memory few =
     let s : memory < 2 ^ 32 = omega arith in
     one_line _ _ _
-    (no_kind (form_tests (record { file = Some file; memory = None; names = []; channels = []; words = 0 }) true (form.Memory (decimal memory)))
-    (refl, (refl, (refl, (refl, (one_number memory s, (ap (λ (b : Bool). b || (false || false)) (within 0 MOST_MEMORY memory s (omega arith) few), (refl, (refl, (refl, (refl, tt)))))))))))
+    (no_fault (record { file = Some file; memory = None; names = []; channels = []; words = 0 }) true (form.Memory (decimal memory)) (record {
+      byte = refl;
+      directive = refl;
+      operands = refl;
+      name = refl;
+      number = one_number memory s;
+      limit = ap (λ (b : Bool). b || (false || false)) (within 0 MOST_MEMORY memory s (omega arith) few);
+      port = refl;
+      repeated = refl;
+      channel_unknown = refl;
+      channel_kind = refl;
+    }))
     (ap (λ (k : ℕ). so_far file k [] [] 0) (number_is memory s))
 
 pub header_leads : (b : Bundle) → IsFormedBundle b → IsTyped b
