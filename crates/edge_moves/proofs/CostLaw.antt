@@ -1,13 +1,14 @@
 -- The law on costs holds of the steps.
-use Rattle.std.proofs.Common.{◌≡◌, ℕ, suc, ◌+◌, ◌*◌, ◌<◌, ◌≤◌, List, [], ◌∷◌, ◌++◌, length, length-append, Option, Some, None, Bool, true, false, refl, sym, ap, ◌∙◌, arith}
-use Rattle.std.specs.Prelude.{◌==◌, if◌then◌else◌, is_some}
+use Rattle.std.proofs.Common.{◌≡◌, ℕ, suc, ◌+◌, ◌*◌, ◌<◌, ◌≤◌, List, [], ◌∷◌, ◌++◌, length, length-append, Option, Some, None, Bool, true, false, ◌≢◌, ◌⊎◌, inl, inr, refl, sym, ap, subst, ◌∙◌, arith}
+use Rattle.std.specs.Prelude.{◌==◌, ◌-◌, nat_lt, if◌then◌else◌, is_some}
+use Rattle.std.proofs.lemmas.Bool.{cases_eq}
 use Rattle.std.proofs.lemmas.Bool.Decides.{nat_tests}
 use Rattle.micro_isa.specs.declared.image.PReg.{PReg}
 use Rattle.edge_moves.specs.MoveSteps.{Pair, moving, without, steps_from, move_steps}
 use Rattle.edge_moves.specs.ParallelMove.{is_target, AreDistinct, IsFree}
-use Rattle.edge_moves.specs.Costs.{LeadBack, AreCycles, pairs_of, SamePairs, cycles_cost, CostsByCycle}
+use Rattle.edge_moves.specs.Costs.{LeadBack, AreCycles, pairs_of, SamePairs, cycles_cost, most_steps, CostsByCycle}
 use Rattle.edge_moves.specs.Tally.{outside, inside, openings, sum_of, counted}
-use Rattle.edge_moves.proofs.Lists.{few, source_to-without, distinct-without, length-moving, distinct-moving, stay-moving, some_target}
+use Rattle.edge_moves.proofs.Lists.{NoneStay, stay-without, few, source_to-without, distinct-without, length-moving, distinct-moving, stay-moving, some_target}
 use Rattle.edge_moves.proofs.Parallel.{Remains, IsNoTarget, free_kept}
 use Rattle.edge_moves.proofs.Rings.{Run, after, Rings, exchanges, ringed, length-without-one, is_source-split}
 use Rattle.edge_moves.proofs.Openings.{free_steps, rings_openings, distinct-after}
@@ -141,3 +142,53 @@ few_cycles pairs d =
     let left = moving pairs in
     let s = split n left (length-moving pairs) (remains pairs d) in
     omega (arith, s.opened_inside, s.same_inside.number, exchanged s.rings (inside n left) s.are)
+
+-- a cycle has at least two pairs
+stay-after : (c left : List Pair) → NoneStay left → NoneStay (after left c)
+stay-after [] left stay = stay
+stay-after (p ∷ c) left stay = stay-after c (without (p.1).0 left) (stay-without (p.1).0 left stay)
+
+two_each : (cs : List (List Pair)) (left : List Pair) → Rings left cs → NoneStay left → 2 * length cs ≤ length (pairs_of (cycles_of left cs))
+two_each [] left r stay = omega arith
+two_each (c ∷ cs) [] r stay = absurd r
+two_each ([] ∷ cs) (p ∷ ps) r stay = absurd (stay.0 r.0)
+two_each ((q ∷ c) ∷ cs) (p ∷ ps) r stay =
+    let ih = two_each cs (after ps (q ∷ c)) r.1 (stay-after (q ∷ c) ps stay.1) in
+    omega (arith, ih, length-append (q ∷ c) (pairs_of (cycles_of (after ps (q ∷ c)) cs)))
+
+no_cycles : (cs : List (List Pair)) (left : List Pair) → Rings left cs → length cs ≡ 0 → length (pairs_of (cycles_of left cs)) ≡ 0
+no_cycles [] left r e = refl
+no_cycles (c ∷ cs) left r e = absurd (omega arith)
+
+most_by : (has_free : Bool) (n outside inside cycles : ℕ) → outside + inside ≤ n → 2 * cycles ≤ inside → (cycles ≡ 0 → inside ≡ 0)
+    → sum_of has_free outside inside cycles ≤ most_steps n
+most_by has_free n outside inside cycles le two none = by has_free (cases_eq cycles 0) (nat_lt n 2) refl
+  where
+    by : (f : Bool) → (cycles ≡ 0) ⊎ (cycles ≢ 0) → (b : Bool) → nat_lt n 2 ≡ b → sum_of f outside inside cycles ≤ (if b then n else 3 * (n - 1))
+    by true (inl zero_cycles) true is = let i = none zero_cycles in omega arith
+    by true (inl zero_cycles) false is = let i = none zero_cycles in let more : 2 ≤ n = grind (arith, nat_tests) in omega arith
+    by true (inr some) true is = let less : n < 2 = grind (arith, nat_tests) in absurd (omega arith)
+    by true (inr some) false is = let more : 2 ≤ n = grind (arith, nat_tests) in omega arith
+    by false (inl zero_cycles) true is = let i = none zero_cycles in omega arith
+    by false (inl zero_cycles) false is = let i = none zero_cycles in let more : 2 ≤ n = grind (arith, nat_tests) in omega arith
+    by false (inr some) true is = let less : n < 2 = grind (arith, nat_tests) in absurd (omega arith)
+    by false (inr some) false is = let more : 2 ≤ n = grind (arith, nat_tests) in omega arith
+
+-- there are few steps
+pub cost_few : (pairs : List Pair) (has_free : Bool) → AreDistinct pairs → counted has_free pairs ≤ most_steps (length pairs)
+cost_few pairs has_free d =
+    let n = length pairs in
+    let left = moving pairs in
+    let s = split n left (length-moving pairs) (remains pairs d) in
+    let settled = settles n left (length-moving pairs) (remains pairs d) in
+    let number = s.same_inside.number in
+    let opened = s.opened_inside in
+    let two = two_each s.rings (inside n left) s.are settled.remains.stay in
+    let both = length-append (outside n left) (pairs_of (cycles_of (inside n left) s.rings)) in
+    let all = s.same.number in
+    let short = length-moving pairs in
+    most_by has_free n (length (outside n left)) (length (inside n left)) (openings (length (inside n left)) (inside n left)) (omega arith) (omega arith)
+    (λ e. let none = no_cycles s.rings (inside n left) s.are (sym opened ∙ e) in sym number ∙ none)
+
+pub steps_few : (pairs : List Pair) (free : Option PReg) → AreDistinct pairs → IsFree pairs free → length (move_steps pairs free) ≤ most_steps (length pairs)
+steps_few pairs free d h = subst (λ m. m ≤ most_steps (length pairs)) (cost_is pairs (is_some free) d free h refl) (cost_few pairs (is_some free) d)

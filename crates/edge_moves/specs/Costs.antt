@@ -1,5 +1,5 @@
 -- The law on costs: one step a pair outside cycles, and for each cycle its own cost.
-use Rattle.std.specs.Prelude.{◌≡◌, ℕ, ◌+◌, ◌-◌, ◌*◌, Bool, true, false, List, [], ◌∷◌, ◌++◌, length}
+use Rattle.std.specs.Prelude.{◌≡◌, ℕ, ◌+◌, ◌-◌, ◌*◌, nat_lt, if◌then◌else◌, Bool, true, false, List, [], ◌∷◌, ◌++◌, length}
 use Rattle.edge_moves.specs.MoveSteps.{Pair, moving, is_source}
 use Rattle.edge_moves.specs.ParallelMove.{source_to}
 
@@ -43,6 +43,10 @@ cycle_cost false n = 3 * (n - 1)
 abbrev pub cycles_cost : Bool → List (List Pair) → ℕ
 cycles_cost has_free [] = 0
 cycles_cost has_free (c ∷ cs) = cycle_cost has_free (length c) + cycles_cost has_free cs
+
+-- the most steps for n pairs: the pair alone, or an exchange for each pair but one
+abbrev pub most_steps : ℕ → ℕ
+most_steps n = if nat_lt n 2 then n else 3 * (n - 1)
 
 -- the pairs that move something are some outside cycles, one step each, and cycles, and the cost is the sum
 pub record CostsByCycle (pairs : List Pair) (has_free : Bool) (cost : ℕ) : Type 0 where

@@ -2,7 +2,7 @@ ghost use Rattle.std.specs.Prelude.{◌≡◌, ◌+◌, ◌<◌, ◌≤◌, ℕ,
 ghost use Rattle.micro_isa.specs.declared.image.PReg.{PReg};
 ghost use Rattle.edge_moves.specs.MoveSteps.{Pair, is_source, first_free, without, move_steps};
 ghost use Rattle.edge_moves.specs.ParallelMove.{AreDistinct, IsFree, is_target};
-ghost use Rattle.edge_moves.specs.Costs.{CostsByCycle};
+ghost use Rattle.edge_moves.specs.Costs.{most_steps, CostsByCycle};
 ghost use Rattle.edge_moves.specs.Tally.{is_left, left_of, first_of, outside, inside, left_at, opens_at, openings, sum_of, counted};
 
 use micro_isa::PReg;
@@ -11,12 +11,14 @@ use micro_isa::PReg;
 type Done = [bool; 256];
 
 /// How many steps `sequence` gives for these pairs, with a free register or without: one a pair
-/// outside cycles, and for a cycle of n pairs n + 1 with a free register and 3 (n - 1) without.
-#[tactic(auto, using(crate::proofs::CostLaw::cost_is, crate::proofs::CostLaw::cost_law))]
+/// outside cycles, and for a cycle of n pairs n + 1 with a free register and 3 (n - 1) without. So
+/// they are at most 3 (n - 1) for n pairs, or one for one.
+#[tactic(auto, using(crate::proofs::CostLaw::cost_is, crate::proofs::CostLaw::cost_law, crate::proofs::CostLaw::cost_few))]
 pub fn cost(pairs: &[(PReg, PReg)], has_free: bool) -> u32
     requires { AreDistinct pairs.now }
     ensures steps { (free : Option PReg) → IsFree pairs.now free → is_some free ≡ has_free → result ≡ length (move_steps pairs.now free) }
     ensures law { CostsByCycle pairs.now has_free result }
+    ensures few { result ≤ most_steps (length pairs.now) }
 {
     counted(pairs, has_free)
 }

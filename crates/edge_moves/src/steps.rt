@@ -1,7 +1,8 @@
-ghost use Rattle.std.specs.Prelude.{◌≡◌, ◌∷◌, [], ◌++◌, IfOk, OnOk};
+ghost use Rattle.std.specs.Prelude.{◌≡◌, ◌≤◌, ◌∷◌, [], ◌++◌, IfOk, OnOk, length};
 ghost use Rattle.edge_moves.specs.MoveSteps.{moving, without, renamed, joined, open_cycle, turn, move_steps};
 ghost use Rattle.edge_moves.specs.ParallelMove.{AreDistinct, IsFree, ParallelMove};
 ghost use Rattle.edge_moves.specs.Within.{KeepsWithin};
+ghost use Rattle.edge_moves.specs.Costs.{most_steps};
 
 use crate::remaining::{first_free, target_of};
 use crate::step::Step;
@@ -12,7 +13,7 @@ use std::alloc::Global;
 /// The steps that do these moves, each from a source to a target, as if at once. The free register,
 /// where there is one, may change, and no other register but the targets. The only error is want of
 /// memory.
-#[tactic(auto, using(crate::proofs::Parallel::parallel_move, crate::proofs::Bounds::keeps_within))]
+#[tactic(auto, using(crate::proofs::Parallel::parallel_move, crate::proofs::Bounds::keeps_within, crate::proofs::CostLaw::steps_few))]
 pub fn sequence(
     alloc: Global,
     pairs: &[(PReg, PReg)],
@@ -23,6 +24,7 @@ pub fn sequence(
     ensures steps { IfOk result (λ done. done.items ≡ move_steps pairs.now free) }
     ensures moves { IfOk result (λ done. ParallelMove pairs.now free done.items) }
     ensures within { IfOk result (λ done. KeepsWithin pairs.now free done.items) }
+    ensures few { IfOk result (λ done. length done.items ≤ most_steps (length pairs.now)) }
 {
     steps_of(alloc, pairs, free)
 }
