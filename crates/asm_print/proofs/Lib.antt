@@ -2,6 +2,7 @@ mod Bytes
 mod ContextAgain
 mod ContextLines
 mod HeaderAgain
+mod HeaderLines
 mod InTurn
 mod InstructionAgain
 mod Mnemonics

@@ -37,7 +37,8 @@ use Rattle.asm_print.proofs.Bytes.{rows_again}
 use Rattle.asm_print.proofs.ContextAgain.{Good, said_again}
 use Rattle.asm_print.proofs.ContextLines.{label_again}
 use Rattle.asm_lines.proofs.First.{no_kind}
-use Rattle.asm_print.proofs.HeaderAgain.{header_leads, so_far}
+use Rattle.asm_print.proofs.HeaderAgain.{header_leads}
+use Rattle.asm_print.proofs.HeaderLines.{so_far}
 use Rattle.asm_print.proofs.InstructionAgain.{Channelled, body_again, shape}
 use Rattle.asm_print.proofs.Mnemonics.{mnemonic_stays}
 use Rattle.micro_isa.specs.Operands.{operation_of}
