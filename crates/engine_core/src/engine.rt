@@ -1,4 +1,5 @@
 ghost use Rattle.std.specs.Prelude.{◌≡◌, ◌≤◌, ℕ, IfOk, None, Some, false, replicate, true};
+ghost use Rattle.micro_isa.specs.declared.limits.TheConstants.{MOST_STEPS};
 ghost use Rattle.micro_isa.specs.Formed.{IsFormedImage};
 ghost use Rattle.world.specs.WorldState.{can_feed, is_plugged};
 ghost use Rattle.world.specs.declared.event.Event.TheVariants.{Run as RunOf, Feed as FeedOf, Unplug as UnplugOf};
@@ -39,7 +40,7 @@ impl Engine {
     /// of the image.
     pub fn open(alloc: Global, image: &Image, bound: u32) -> Result<Engine, NoMemory>
         requires formed { IsFormedImage image.now }
-        requires bound { bound ≤ 1048576 }
+        requires bound { bound ≤ MOST_STEPS }
         ensures image { IfOk result (λ engine. engine.image ≡ image.now) }
         ensures opening { IfOk result (λ engine. config_of engine ≡ machine_open image.now bound) }
     {
@@ -52,7 +53,7 @@ impl Engine {
     /// The same over an image that is taken.
     pub fn of(alloc: Global, image: Image, bound: u32) -> Result<Engine, NoMemory>
         requires formed { IsFormedImage image }
-        requires bound { bound ≤ 1048576 }
+        requires bound { bound ≤ MOST_STEPS }
         ensures image { IfOk result (λ engine. engine.image ≡ image) }
         ensures opening { IfOk result (λ engine. config_of engine ≡ machine_open image bound) }
     {

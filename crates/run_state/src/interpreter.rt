@@ -1,4 +1,5 @@
 ghost use Rattle.std.specs.Prelude.{◌≡◌, ◌≤◌, None, Some, false, length, true};
+ghost use Rattle.micro_isa.specs.declared.limits.TheConstants.{MOST_CONTEXTS};
 ghost use Rattle.world.specs.WorldState.{is_plugged};
 ghost use Rattle.world.specs.declared.event.Event.TheVariants.{Run as RunOf, Unplug as UnplugOf};
 ghost use Rattle.world.specs.declared.event.Seen.TheVariants.{Ran as RanOf, Unplugged as UnpluggedOf};
@@ -22,7 +23,7 @@ pub trait Interpreter {
     /// The number of contexts.
     fn contexts(&self) -> u32
         ensures number { result ≡ length (config self.now).core.phases }
-        ensures small { result ≤ 8 };
+        ensures small { result ≤ MOST_CONTEXTS };
 
     /// Whether a context can go on; false where there is none of this number.
     fn runnable(&self, context: u32) -> bool

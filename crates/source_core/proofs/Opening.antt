@@ -3,6 +3,7 @@ use Rattle.std.proofs.Common.{◌≡◌, ℕ, zero, suc, ◌<◌, ◌≤◌, Lis
 use Rattle.std.specs.Prelude.{slice_get, slice_index, ◌&&◌, IfSome}
 use Rattle.std.proofs.lemmas.Bool.{ltb-true}
 use Rattle.std.proofs.lemmas.List.{length-replicate, length-map}
+use Rattle.micro_isa.specs.declared.limits.TheConstants.{MOST_CONTEXTS}
 use Rattle.micro_isa.specs.declared.instr.Instr.{Instr}
 use Rattle.micro_isa.specs.declared.program.VReg.{VReg}
 use Rattle.micro_isa.specs.declared.program.Program.{Program}
@@ -60,7 +61,7 @@ start_at (q ∷ ps) (suc c) p x is at = start_at ps c p x is at
 
 opened : (b : Bundle) (bound : ℕ) → IsFormedBundle b → IsSound b (opening_core b.setting (length b.programs) bound) (map start_of b.programs)
 opened b bound formed = record {
-  few = subst (λ n. n ≤ 8) (sym (length-map b.programs start_of)) formed.few;
+  few = subst (λ n. n ≤ MOST_CONTEXTS) (sym (length-map b.programs start_of)) formed.few;
   as_many = length-map b.programs start_of ∙ sym (length-replicate (length b.programs) Ready);
   as_many_programs = sym (length-replicate (length b.programs) Ready);
   each = λ c p x is_program is_x. subst (λ k. IsContext p.code k) (start_at b.programs c p x is_program is_x) (start_placed p (formed.programs c p is_program));

@@ -4,6 +4,7 @@ use Rattle.std.specs.Prelude.{slice_get, slice_set, ◌==◌, if◌then◌else�
 use Rattle.std.proofs.lemmas.Bool.{eqb-true, eqb-false, cases_eq}
 use Rattle.std.proofs.lemmas.Option.{same_Some, slice_get_within, slice_get-get_or}
 use Rattle.std.proofs.lemmas.List.{length-set}
+use Rattle.micro_isa.specs.declared.limits.TheConstants.{MOST_CONTEXTS}
 use Rattle.micro_isa.specs.declared.program.Line.{Line}
 use Rattle.micro_isa.specs.declared.program.Program.{Program}
 use Rattle.micro_isa.specs.declared.program.Bundle.{Bundle}
@@ -37,7 +38,7 @@ segment_is bundle core core2 xs c x x2 code seen at is_code went =
 -- the interpreter stays sound where a context does
 pub stays_sound : (bundle : Bundle) (core core' : Core) (xs : List ContextState) (c : ℕ) (x0 x : ContextState) → IsSound bundle core xs → slice_get xs c ≡ Some x0 → length core'.phases ≡ length core.phases → ((p : Program) → slice_get bundle.programs c ≡ Some p → IsContext p.code x) → IsSound bundle core' (slice_set xs c x)
 stays_sound bundle core core' xs c x0 x s old same placed = record {
-  few = subst (λ n. n ≤ 8) (sym (length-set xs c x)) s.few;
+  few = subst (λ n. n ≤ MOST_CONTEXTS) (sym (length-set xs c x)) s.few;
   as_many = length-set xs c x ∙ s.as_many ∙ sym same;
   as_many_programs = s.as_many_programs ∙ sym same;
   each = λ d p xd is_program is_x. elim (cases_eq d c) [

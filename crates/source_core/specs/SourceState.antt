@@ -1,5 +1,6 @@
 -- The interpreter's state, and the configuration of a run that it stands for.
 use Rattle.std.specs.Prelude.{◌≡◌, ◌≤◌, ℕ, Bool, List, [], length, nat_lt, replicate, Option, Some, None, slice_get}
+use Rattle.micro_isa.specs.declared.limits.TheConstants.{MOST_CONTEXTS}
 use Rattle.micro_isa.specs.declared.program.VReg.{VReg}
 use Rattle.micro_isa.specs.declared.program.Line.{Line}
 use Rattle.micro_isa.specs.declared.program.Program.{Program}
@@ -41,7 +42,7 @@ pub record IsContext (code : List Line) (x : ContextState) : Type 0 where
   pub placed : IsPlaced (is_there (length x.registers)) (length code) x.place
 
 pub record IsSound (bundle : Bundle) (core : Core) (contexts : List ContextState) : Type 0 where
-  pub few : length contexts ≤ 8
+  pub few : length contexts ≤ MOST_CONTEXTS
   pub as_many : length contexts ≡ length core.phases
   pub as_many_programs : length bundle.programs ≡ length core.phases
   pub each : (c : ℕ) (p : Program) (x : ContextState) → slice_get bundle.programs c ≡ Some p → slice_get contexts c ≡ Some x → IsContext p.code x

@@ -1,4 +1,5 @@
 ghost use Rattle.std.specs.Prelude.{◌≡◌, ◌≤◌, IfOk, IfErr, None, Some, false, length, map, true};
+ghost use Rattle.micro_isa.specs.declared.limits.TheConstants.{MOST_STEPS};
 ghost use Rattle.world.specs.WorldState.{is_plugged};
 ghost use Rattle.micro_isa.specs.Formed.{IsFormedBundle};
 ghost use Rattle.world.specs.declared.event.Event.TheVariants.{Run as RunOf, Feed as FeedOf, Unplug as UnplugOf};
@@ -39,7 +40,7 @@ impl SourceRun {
     /// the bundle.
     pub fn open(alloc: Global, bundle: &Bundle, bound: u32) -> Result<SourceRun, NoMemory>
         requires formed { IsFormedBundle bundle.now }
-        requires bound { bound ≤ 1048576 }
+        requires bound { bound ≤ MOST_STEPS }
         ensures bundle { IfOk result (λ run. run.bundle ≡ bundle.now) }
         ensures opening { IfOk result (λ run. config_of run ≡ source_open bundle.now bound) }
     {
