@@ -55,6 +55,10 @@ const JUMPS_OVER: &[u8] = b"file 1\ncontext a\njmp end\nli x, 1\nend: halt\n";
 const JUMPS_OVER_CHECK: &[u8] =
     b"context 0 private 0 all 1 regions 1\nunreachable 0 4\nneed 1 file 1\n";
 
+/// The report of a replay of no entries.
+const OPENING: &[u8] =
+    b"need 2\nbudget private 0 shared 2\nglue 0\noutput 0\ncontext 0 ready\nfile 0 0\nsteps 0\nend open\n";
+
 const USAGE: &[u8] = b"usage: micro COMMAND [NUMBER] [--steps N] [--order round|threads]\n";
 
 /// A call: its words, the input, the failing calls of the source and the sink; and what it must
@@ -173,6 +177,46 @@ fn serves_and_refuses(rt: HostRuntime) -> Result<(), Fail> {
     ];
     for call in cases.iter() {
         assert_eq!(rt; status_of(alloc, call)?, call.status);
+    }
+    Ok(())
+}
+
+/// `EXAMPLE` and lines behind it, what `replay` must write for them, and with which status.
+const REPLAYS: [(&[u8], &[u8], Status); 6] = [
+    (b"journal\nrun 0 4 send\nrun 0 1 halt\n", REPORT, Status::Done),
+    (b"journal", OPENING, Status::Done),
+    (b"", OPENING, Status::Done),
+    (
+        b"journal\nrun 0 4 send\nrun 0 4 send",
+        b"journal 2 differs run 0 4 send found run 0 1 halt\n",
+        Status::BadJournal,
+    ),
+    (
+        b"journal\nrun 0 4 send\nrun 0 1 halt\nrun 0 1 halt\n",
+        b"journal 3 illegal run 0 1 halt\n",
+        Status::BadJournal,
+    ),
+    (
+        b"journal\nrun 0 1 halt\nrun 0 04 send\n",
+        b"journal 2 reading\n",
+        Status::BadJournal,
+    ),
+];
+
+#[test]
+fn replays_journals(rt: HostRuntime) -> Result<(), Fail> {
+    let alloc = rt.alloc();
+    for (lines, wrote, status) in REPLAYS {
+        let mut words = Vec::new(alloc);
+        words.push(String::from_str(alloc, "replay")?)?;
+        let mut input = Vec::from_slice(alloc, EXAMPLE)?;
+        input.extend_from_slice(lines)?;
+        let mut source = MemSource::of(input, 64, Vec::new(alloc));
+        let Ok(mut sink) = MemSink::of(alloc, 64, Vec::new(alloc), 1000) else {
+            return Err(Fail::from("ample memory"));
+        };
+        assert_eq!(rt; plain_call(alloc, &words, &mut source, &mut sink), status);
+        assert!(rt; sink.wrote_bytes() == wrote);
     }
     Ok(())
 }
