@@ -7,3 +7,4 @@ pub mod Openings
 pub mod Outside
 pub mod Parallel
 pub mod Rings
+pub mod Sources

@@ -1,10 +1,11 @@
-ghost use Rattle.std.specs.Prelude.{◌≡◌, ◌+◌, ◌<◌, ◌≤◌, ℕ, List, true, if◌then◌else◌, Option, length, is_some};
+ghost use Rattle.std.specs.Prelude.{◌≡◌, ◌+◌, ◌<◌, ◌≤◌, ℕ, List, true, false, if◌then◌else◌, Option, length, is_some, slice_index_or};
 ghost use Rattle.micro_isa.specs.declared.image.PReg.{PReg};
 ghost use Rattle.edge_moves.specs.MoveSteps.{Pair, is_source, first_free, without, move_steps};
 ghost use Rattle.edge_moves.specs.ParallelMove.{AreDistinct, IsFree, is_target};
 ghost use Rattle.edge_moves.specs.Costs.{most_steps, CostsByCycle};
 ghost use Rattle.edge_moves.specs.Tally.{is_left, left_of, first_of, outside, inside, left_at, opens_at, openings, sum_of, counted};
 
+use crate::register_set::{RegisterSet, add};
 use micro_isa::PReg;
 
 /// Which registers are targets whose pair is done.
@@ -123,24 +124,26 @@ fn count_left(pairs: &[(PReg, PReg)], done: &Done) -> usize
     left
 }
 
-/// Whether a remaining pair has this source.
-fn is_source(pairs: &[(PReg, PReg)], done: &Done, register: PReg) -> bool
-    ensures { result ≡ is_source (left_of done.now pairs.now) register.0 }
+/// The sources of the remaining pairs.
+fn sources_of(pairs: &[(PReg, PReg)], done: &Done) -> RegisterSet
+    ensures { (q : ℕ) → slice_index_or result q false ≡ is_source (left_of done.now pairs.now) q }
 {
+    let mut sources = [false; 256];
     for pair in pairs {
-        if is_left(*pair, done) && pair.0.0 == register.0 {
-            return true;
+        if is_left(*pair, done) {
+            add(&mut sources, pair.0);
         }
     }
-    false
+    sources
 }
 
 /// The first remaining pair whose target is no source.
 fn first_free(pairs: &[(PReg, PReg)], done: &Done) -> Option<(PReg, PReg)>
     ensures { result ≡ first_free (left_of done.now pairs.now) (left_of done.now pairs.now) }
 {
+    let sources = sources_of(pairs, done);
     for pair in pairs {
-        if is_left(*pair, done) && !is_source(pairs, done, pair.1) {
+        if is_left(*pair, done) && !sources[pair.1.0 as usize] {
             return Some(*pair);
         }
     }

@@ -2,6 +2,7 @@
 #![tactic(auto)]
 
 mod counting;
+mod register_set;
 mod remaining;
 mod step;
 mod steps;

@@ -1,26 +1,28 @@
-ghost use Rattle.std.specs.Prelude.{◌≡◌};
+ghost use Rattle.std.specs.Prelude.{ℕ, ◌≡◌, false, slice_index_or};
 ghost use Rattle.edge_moves.specs.MoveSteps.{is_source, first_free, target_of};
 
+use crate::register_set::{RegisterSet, add};
 use micro_isa::PReg;
 
-/// Whether a remaining pair has this source.
-pub fn is_source(left: &[(PReg, PReg)], register: PReg) -> bool
-    ensures { result ≡ is_source left.now register.0 }
+/// The sources of the remaining pairs.
+#[tactic(auto, using(crate::proofs::Sources::none_marked, crate::proofs::Sources::source_next))]
+fn sources_of(left: &[(PReg, PReg)]) -> RegisterSet
+    ensures { (q : ℕ) → slice_index_or result q false ≡ is_source left.now q }
 {
+    let mut sources = [false; 256];
     for (source, _) in left {
-        if source.0 == register.0 {
-            return true;
-        }
+        add(&mut sources, *source);
     }
-    false
+    sources
 }
 
 /// The first pair whose target is no source.
 pub fn first_free(left: &[(PReg, PReg)]) -> Option<(PReg, PReg)>
     ensures { result ≡ first_free left.now left.now }
 {
+    let sources = sources_of(left);
     for pair in left {
-        if !is_source(left, pair.1) {
+        if !sources[pair.1.0 as usize] {
             return Some(*pair);
         }
     }
