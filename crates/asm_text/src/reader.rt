@@ -1,5 +1,6 @@
 ghost use Rattle.std.specs.Prelude.{◌≡◌, ◌<◌, ◌≤◌, None, IfOk, OnOk, IfErr, length, unwrap_or, true};
 ghost use Rattle.std.specs.List.{list_all, list_any};
+ghost use Rattle.micro_isa.specs.declared.limits.TheConstants.{LONGEST_TEXT};
 ghost use Rattle.micro_isa.specs.Names.{name_test};
 ghost use Rattle.asm_lines.specs.Faults.{Causes};
 ghost use Rattle.asm_lines.specs.Tables.{words_seen};
@@ -71,7 +72,7 @@ fn read_lines<'a>(alloc: Global, rows: &[Row<'a>]) -> Result<Bundle, BundleFault
 }
 
 fn read_text(alloc: Global, text: &[u8]) -> Result<Bundle, BundleFault>
-    requires { length text.now ≤ 2097152 }
+    requires { length text.now ≤ LONGEST_TEXT }
     ensures fine { IfOk result (λ b. Spells text.now b) }
     ensures cause { IfErr result (λ why. Causes why (text_fault text.now)) }
 {
@@ -84,7 +85,7 @@ fn read_text(alloc: Global, text: &[u8]) -> Result<Bundle, BundleFault>
 /// The bundle that a text spells, or the first fault of the text.
 #[tactic(auto, using(crate::proofs::Spelling::spelled_alone, crate::proofs::Spelling::unspelled, crate::proofs::Forming::spelled_formed, crate::proofs::Judging::tells))]
 pub fn read_bundle(alloc: Global, text: &[u8]) -> Result<Bundle, BundleFault>
-    requires { length text.now ≤ 2097152 }
+    requires { length text.now ≤ LONGEST_TEXT }
     ensures fine { IfOk result (λ b. Spells text.now b) }
     ensures alone { IfOk result (SpellsAlone text.now) }
     ensures formed { IfOk result IsFormedBundle }
