@@ -5,13 +5,15 @@ use Rattle.micro_isa.specs.declared.program.Bundle.{Bundle}
 use Rattle.micro_isa.specs.declared.image.Image.{Image}
 use Rattle.world.specs.declared.event.Entry.{Entry}
 use Rattle.world.specs.declared.event.End.{End}
-use Rattle.semantics.specs.Agreement.{Implements}
 use Rattle.semantics.specs.Core.{Core, ending_of, shown_core}
 use Rattle.semantics.specs.Events.{Config}
 use Rattle.semantics.specs.Entries.{LeadsTo}
 use Rattle.semantics.specs.Machine.{Machine, machine_semantics, machine_open}
 use Rattle.engine_core.specs.EngineState.{config_of}
-use Rattle.sliced_image.specs.Sliced.{sliced_need, sliced_image}
+use Rattle.emitted.specs.Emitted.{IsEmitted}
+use Rattle.allocate.specs.declared.allocation.Allocation.{Allocation}
+use Rattle.allocate.specs.declared.allocation.AllocFault.TheVariants.{NoFit}
+use Rattle.allocate.specs.Allocations.{IsAllocation, HasOneAllocation, TellsFault}
 use Rattle.journal_text.specs.Journals.{IsJournal, IsFirstStray}
 use Rattle.run_journal.specs.declared.replaying.ReplayFault.{ReplayFault}
 use Rattle.run_journal.specs.declared.replaying.ReplayFault.TheVariants as fault
@@ -22,20 +24,17 @@ use Rattle.commands.specs.declared.status.Status.{Status}
 use Rattle.commands.specs.declared.status.Status.TheVariants as status
 use Rattle.commands.specs.declared.task.JournalTask.{JournalTask}
 use Rattle.commands.specs.declared.task.JournalTask.TheVariants as journal
-use Rattle.commands.specs.declared.made.Unmade.TheVariants as unmade
-use Rattle.commands.specs.Made.{IsUnmade}
 use Rattle.commands.specs.Reports.{IsReportOfEntries, status_of, status_so_far}
 use Rattle.commands.specs.Tells.{no_fit_line, IsServed, steps_of_journal}
-use Rattle.commands.specs.Journals.{unread_line, IsUnread, AreEntries, TellsStray, IsStray, EntriesReplayed, IsRead, Replayed, TellsOfJournal, FitsJournal}
-use Rattle.commands.proofs.Telling.{of_image, does_not_fit, ended_served}
+use Rattle.commands.specs.Journals.{unread_line, IsUnread, AreEntries, TellsStray, IsStray, EntriesReplayed, IsRead, Replayed, TellsOfJournal, IsLegalJournal, FitsJournal}
+use Rattle.commands.proofs.Telling.{of_image, does_not_fit, not_both, ended_served}
 
-pub replay_tells : (steps : ℕ) (answer : Status) (b : Bundle) (lines text : List ℕ) (m : Image) (need : ℕ) → m ≡ sliced_image b → need ≡ sliced_need b → sliced_need b ≤ b.file → Implements m b → Replayed steps m need lines answer text → TellsOfJournal (journal.Replay steps) answer b lines text
-replay_tells steps answer b lines text m need is needs fits same told =
-    of_image (λ n. Replayed steps n (sliced_need b) lines answer text) answer b text m is fits same (subst (λ n. Replayed steps m n lines answer text) needs told)
+pub replay_tells : (steps : ℕ) (answer : Status) (b : Bundle) (lines text : List ℕ) (a : Allocation) → IsAllocation b a → HasOneAllocation b → IsEmitted b a.plans a.budget a.image → Replayed steps a.image a.need lines answer text → TellsOfJournal (journal.Replay steps) answer b lines text
+replay_tells steps answer b lines text a allocated only emitted told =
+    inr (of_image (λ x. Replayed steps x.image x.need lines answer text) b a allocated only emitted told)
 
-pub replay_does_not_fit : (steps need file : ℕ) (answer : Status) (b : Bundle) (lines text : List ℕ) → IsUnmade (unmade.NoFit need file) b → answer ≡ status.NoFit → text ≡ no_fit_line need file → TellsOfJournal (journal.Replay steps) answer b lines text
-replay_does_not_fit steps need file answer b lines text above answered told =
-    does_not_fit (λ m. Replayed steps m (sliced_need b) lines answer text) need file answer b text above answered told
+pub replay_does_not_fit : (steps need file : ℕ) (answer : Status) (b : Bundle) (lines text : List ℕ) → TellsFault b (NoFit need file) → answer ≡ status.NoFit → text ≡ no_fit_line need file → TellsOfJournal (journal.Replay steps) answer b lines text
+replay_does_not_fit steps need file answer b lines text fault answered told = inl (does_not_fit answer b text need file fault answered told)
 
 -- lines that are not entries, and lines that are
 pub told_unread : (steps need at : ℕ) (m : Image) (lines : List ℕ) (answer : Status) (text : List ℕ) → IsFirstStray lines at → ((entries : List Entry) → IsJournal lines entries → ⊥) → answer ≡ status.BadJournal → text ≡ unread_line at → Replayed steps m need lines answer text
@@ -66,9 +65,9 @@ report_of_entries steps need m entries r answer text replays legal answered told
       legal = legal;
       answered = answered ∙ ap (λ o. status_so_far o r.engine.core.phases) end;
       reported = told
-      ∙ ap (λ (i : Image). report_text (Some need) (Some i) i.setting.channels r.entries (record { view = shown_core r.engine.core; file = Some r.engine.file; ending = run_ending r.engine.core r.idle })) replays.same_image
-      ∙ ap (λ l. report_text (Some need) (Some m) m.setting.channels l (record { view = shown_core r.engine.core; file = Some r.engine.file; ending = run_ending r.engine.core r.idle })) replays.same_entries
-      ∙ ap (λ o. report_text (Some need) (Some m) m.setting.channels entries (record { view = shown_core r.engine.core; file = Some r.engine.file; ending = o })) end;
+          ∙ ap (λ (i : Image). report_text (Some need) (Some i) i.setting.channels r.entries (record { view = shown_core r.engine.core; file = Some r.engine.file; ending = run_ending r.engine.core r.idle })) replays.same_image
+          ∙ ap (λ l. report_text (Some need) (Some m) m.setting.channels l (record { view = shown_core r.engine.core; file = Some r.engine.file; ending = run_ending r.engine.core r.idle })) replays.same_entries
+          ∙ ap (λ o. report_text (Some need) (Some m) m.setting.channels entries (record { view = shown_core r.engine.core; file = Some r.engine.file; ending = o })) end;
     })
 
 -- a run that may go on is served
@@ -85,18 +84,19 @@ replayed_served : (steps need : ℕ) (m : Image) (entries : List Entry) (last : 
 replayed_served steps need m entries last answer text legal (inl s) = absurd (stray_unserved s.why m steps entries text last s.refused s.told legal)
 replayed_served steps need m entries last answer text legal (inr r) = subst IsServed (sym r.answered) (so_far_served r.last.core (ending_of r.last.core) refl)
 
+read_served : (steps need : ℕ) (m : Image) (answer : Status) (lines text : List ℕ) → IsLegalJournal steps m lines → Replayed steps m need lines answer text → IsServed answer
+read_served steps need m answer lines text legal (inl unread) = absurd (unread.unread legal.entries legal.read)
+read_served steps need m answer lines text legal (inr read) =
+    let same = read.are.alone legal.entries legal.read in
+    replayed_served steps need m read.entries legal.last answer text
+    (subst (λ l. LeadsTo (machine_semantics m) (machine_open m steps) l legal.last) same legal.legal)
+    read.replayed
+
 -- where nothing in the bundle and the journal is a cause, the task is served
 pub journal_served : (t : JournalTask) (answer : Status) (b : Bundle) (lines text : List ℕ) → FitsJournal t b lines → TellsOfJournal t answer b lines text → IsServed answer
-journal_served (journal.Replay steps) answer b lines text fits (inl short) = let above = short.above in let below = fits.0 in absurd (omega (arith, above, below))
-journal_served (journal.Replay steps) answer b lines text fits (inr of) = by of.told
-  where
-    by : Replayed steps (sliced_image b) (sliced_need b) lines answer text → IsServed answer
-    by (inl unread) = absurd (unread.unread fits.1.entries fits.1.read)
-    by (inr read) =
-        let same = read.are.alone fits.1.entries fits.1.read in
-        replayed_served steps (sliced_need b) (sliced_image b) read.entries fits.1.last answer text
-        (subst (λ l. LeadsTo (machine_semantics (sliced_image b)) (machine_open (sliced_image b) steps) l fits.1.last) same fits.1.legal)
-        read.replayed
+journal_served (journal.Replay steps) answer b lines text fits (inl short) = absurd (not_both answer b text short fits.0)
+journal_served (journal.Replay steps) answer b lines text fits (inr of) =
+    read_served steps of.allocation.need of.allocation.image answer lines text (fits.1 of.allocation of.allocated) of.told
 
 -- a task is the replay of its steps
 pub told_with : (t : JournalTask) (steps : ℕ) (answer : Status) (b : Bundle) (lines text : List ℕ) → steps ≡ steps_of_journal t → TellsOfJournal (journal.Replay steps) answer b lines text → TellsOfJournal t answer b lines text

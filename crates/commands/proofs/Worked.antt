@@ -1,4 +1,4 @@
--- A worked bundle, by computation: a whole run of it is legal for the source and for its image, and puts out the word 5.
+-- A worked bundle, by computation: a whole run of its source is legal, and puts out the word 5.
 use Rattle.std.proofs.Common.{◌≡◌, List, [], ◌∷◌, Some, None, codes, refl, false}
 use Rattle.micro_isa.specs.declared.arithmetic.AluOp.TheVariants as alu
 use Rattle.micro_isa.specs.declared.instr.Instr.TheVariants as instr
@@ -14,9 +14,7 @@ use Rattle.world.specs.declared.event.Output.{Output}
 use Rattle.world.specs.declared.event.End.TheVariants.{Finished}
 use Rattle.semantics.specs.Events.{run}
 use Rattle.semantics.specs.Source.{source_semantics, source_open}
-use Rattle.semantics.specs.Machine.{machine_semantics, machine_open}
 use Rattle.semantics.specs.Agreement.{Shown, shown}
-use Rattle.sliced_image.specs.Sliced.{sliced_image}
 
 abbrev x : VReg
 x = record { 0 = 0 }
@@ -72,6 +70,3 @@ sum_put_out = record {
 
 pub source_adds : shown (run (source_semantics adds_two_and_three) (source_open adds_two_and_three 100000) turns) ≡ Some sum_put_out
 source_adds = refl
-
-pub image_adds : shown (run (machine_semantics (sliced_image adds_two_and_three)) (machine_open (sliced_image adds_two_and_three) 100000) turns) ≡ Some sum_put_out
-image_adds = refl

@@ -6,7 +6,8 @@ use Rattle.world.specs.declared.event.Entry.{Entry}
 use Rattle.semantics.specs.Events.{Config}
 use Rattle.semantics.specs.Entries.{LeadsTo}
 use Rattle.semantics.specs.Machine.{Machine, machine_semantics, machine_open}
-use Rattle.sliced_image.specs.Sliced.{sliced_need, sliced_image}
+use Rattle.allocate.specs.declared.allocation.Allocation.{Allocation}
+use Rattle.allocate.specs.Allocations.{IsAllocation}
 use Rattle.journal_text.specs.Entries.{entry_words}
 use Rattle.journal_text.specs.Journals.{IsJournal, IsFirstStray}
 use Rattle.run_journal.specs.declared.replaying.ReplayFault.{ReplayFault}
@@ -17,7 +18,7 @@ use Rattle.commands.specs.declared.status.Status.TheVariants as status
 use Rattle.commands.specs.declared.task.JournalTask.{JournalTask}
 use Rattle.commands.specs.declared.task.JournalTask.TheVariants as journal
 use Rattle.commands.specs.Reports.{IsReportOfEntries}
-use Rattle.commands.specs.Tells.{WhereItFits}
+use Rattle.commands.specs.Tells.{WhereItFits, FitsFile}
 
 -- `journal E reading`
 abbrev pub unread_line : ℕ → List ℕ
@@ -77,7 +78,7 @@ Replayed steps m need lines answer text = IsUnread lines answer text ⊎ IsRead 
 -- what a task tells of a bundle and a journal
 abbrev pub TellsOfJournal : JournalTask → Status → Bundle → List ℕ → List ℕ → Type 0
 TellsOfJournal (journal.Replay steps) answer b lines text =
-    WhereItFits (λ m. Replayed steps m (sliced_need b) lines answer text) answer b text
+    WhereItFits (λ a. Replayed steps a.image a.need lines answer text) answer b text
 
 -- the lines are entries that are legal for an image
 pub record IsLegalJournal (steps : ℕ) (m : Image) (lines : List ℕ) : Type 0 where
@@ -88,4 +89,4 @@ pub record IsLegalJournal (steps : ℕ) (m : Image) (lines : List ℕ) : Type 0 
 
 -- nothing in the bundle and the journal is a cause for which the task is refused
 abbrev pub FitsJournal : JournalTask → Bundle → List ℕ → Type 0
-FitsJournal (journal.Replay steps) b lines = (sliced_need b ≤ b.file) × IsLegalJournal steps (sliced_image b) lines
+FitsJournal (journal.Replay steps) b lines = FitsFile b × ((a : Allocation) → IsAllocation b a → IsLegalJournal steps a.image lines)

@@ -4,7 +4,9 @@ use Rattle.micro_isa.specs.declared.program.Bundle.{Bundle}
 use Rattle.micro_isa.specs.declared.image.Image.{Image}
 use Rattle.micro_isa.specs.declared.limits.TheConstants.{MOST_STEPS}
 use Rattle.semantics.specs.Agreement.{Implements}
-use Rattle.sliced_image.specs.Sliced.{sliced_need, sliced_image}
+use Rattle.allocate.specs.declared.allocation.Allocation.{Allocation}
+use Rattle.allocate.specs.Needs.{HasNeed, IsNeed}
+use Rattle.allocate.specs.Allocations.{IsAllocation, HasOneAllocation}
 use Rattle.image_load.specs.Spelling.{Spells}
 use Rattle.asm_print.specs.Canonical.{canonical_text}
 use Rattle.report_check.specs.Checks.{IsCheckOf}
@@ -24,21 +26,25 @@ use Rattle.commands.specs.Reports.{IsReport, IsSourceReport}
 abbrev pub no_fit_line : ℕ → ℕ → List ℕ
 no_fit_line need file = codes "nofit need " ++ decimal need ++ codes " file " ++ decimal file ++ 10 ∷ []
 
--- the registers that a bundle needs are more than its file has, and the line tells both
+-- the registers that a bundle's contexts need together are more than its file has, and the line tells both
 pub record DoesNotFit (answer : Status) (b : Bundle) (text : List ℕ) : Type 0 where
+  pub need : ℕ
+  pub needed : IsNeed b need
+  pub above : b.file < need
   pub answered : answer ≡ status.NoFit
-  pub above : b.file < sliced_need b
-  pub told : text ≡ no_fit_line (sliced_need b) b.file
+  pub told : text ≡ no_fit_line need b.file
 
--- the registers fit, the bundle's image does what the bundle does, for every bound and every list of events, and this is
--- told of that image
-pub record OfItsImage (tells : Image → Type 0) (b : Bundle) : Type 0 where
-  pub fits : sliced_need b ≤ b.file
-  pub same : Implements (sliced_image b) b
-  pub told : tells (sliced_image b)
+-- the bundle has one allocation, its image does what the bundle does, for every bound and every list of events, and this is
+-- told of that allocation
+pub record OfItsImage (tells : Allocation → Type 0) (b : Bundle) : Type 0 where
+  pub allocation : Allocation
+  pub allocated : IsAllocation b allocation
+  pub only : HasOneAllocation b
+  pub same : Implements allocation.image b
+  pub told : tells allocation
 
--- the need is above the file, or this is told of the bundle's image
-abbrev pub WhereItFits : (Image → Type 0) → Status → Bundle → List ℕ → Type 0
+-- the need is above the file, or this is told of the bundle's allocation
+abbrev pub WhereItFits : (Allocation → Type 0) → Status → Bundle → List ℕ → Type 0
 WhereItFits tells answer b text = DoesNotFit answer b text ⊎ OfItsImage tells b
 
 -- the text is the bytes of the image
@@ -47,10 +53,10 @@ pub record IsWritten (answer : Status) (text : List ℕ) (m : Image) : Type 0 wh
   pub spelt : Spells text m
 
 abbrev pub RunTells : ℕ → Status → Bundle → List ℕ → Type 0
-RunTells steps answer b text = WhereItFits (λ m. IsReport steps m (Some (sliced_need b)) answer text) answer b text
+RunTells steps answer b text = WhereItFits (λ a. IsReport steps a.image (Some a.need) answer text) answer b text
 
 abbrev pub BuildTells : Status → Bundle → List ℕ → Type 0
-BuildTells answer b text = WhereItFits (IsWritten answer text) answer b text
+BuildTells answer b text = WhereItFits (λ a. IsWritten answer text a.image) answer b text
 
 -- what a task tells of a bundle
 abbrev pub TellsOfBundle : BundleTask → Status → Bundle → List ℕ → Type 0
@@ -84,10 +90,16 @@ steps_of (task.OfJournal t) = steps_of_journal t
 abbrev pub IsBounded : Task → Type 0
 IsBounded t = steps_of t ≤ MOST_STEPS
 
+-- what the bundle's contexts need together is not above its file
+pub record FitsFile (b : Bundle) : Type 0 where
+  pub need : ℕ
+  pub needed : HasNeed b need
+  pub within : need ≤ b.file
+
 -- nothing in the bundle is a cause for which the task is refused; nothing in an image ever is
 abbrev pub Fits : BundleTask → Bundle → Type 0
-Fits (bundle.Run steps) b = sliced_need b ≤ b.file
-Fits bundle.Build b = sliced_need b ≤ b.file
+Fits (bundle.Run steps) b = FitsFile b
+Fits bundle.Build b = FitsFile b
 Fits _ b = Unit {0}
 
 -- the statuses of what is not refused

@@ -5,9 +5,10 @@ ghost use Rattle.micro_isa.specs.Formed.{IsFormedBundle, IsFormedImage};
 ghost use Rattle.commands.specs.Tells.{RunTells, BuildTells, IsWritten};
 
 use crate::image_runs::run_image;
-use crate::made::{Unmade, make_image, no_fit};
+use crate::no_fit::no_fit;
 use crate::status::Status;
 use crate::task::Reply;
+use allocate::{AllocFault, allocate};
 use image_load::write_image;
 use micro_isa::{Bundle, Image, MOST_STEPS, NoMemory};
 use std::alloc::Global;
@@ -19,16 +20,16 @@ pub(crate) fn run_bundle(alloc: Global, bundle: &Bundle, steps: u32) -> Result<R
     requires bound { steps ≤ MOST_STEPS }
     ensures { IfOk result (λ r. RunTells steps r.status bundle.now r.text.items) }
 {
-    match make_image(alloc, bundle) {
-        Ok(made) => match run_image(alloc, &made.image, Some(made.need), steps) {
+    match allocate(alloc, bundle) {
+        Ok(allocation) => match run_image(alloc, &allocation.image, Some(allocation.need), steps) {
             Ok(reply) => Ok(reply),
             Err(NoMemory) => Err(NoMemory),
         },
-        Err(Unmade::NoFit { need, file }) => match no_fit(alloc, need, file) {
+        Err(AllocFault::NoFit { need, file }) => match no_fit(alloc, need, file) {
             Ok(reply) => Ok(reply),
             Err(NoMemory) => Err(NoMemory),
         },
-        Err(Unmade::NoMemory) => Err(NoMemory),
+        Err(AllocFault::NoMemory) => Err(NoMemory),
     }
 }
 
@@ -38,16 +39,16 @@ pub(crate) fn build_bundle(alloc: Global, bundle: &Bundle) -> Result<Reply, NoMe
     requires { IsFormedBundle bundle.now }
     ensures { IfOk result (λ r. BuildTells r.status bundle.now r.text.items) }
 {
-    match make_image(alloc, bundle) {
-        Ok(made) => match written(alloc, &made.image) {
+    match allocate(alloc, bundle) {
+        Ok(allocation) => match written(alloc, &allocation.image) {
             Ok(reply) => Ok(reply),
             Err(NoMemory) => Err(NoMemory),
         },
-        Err(Unmade::NoFit { need, file }) => match no_fit(alloc, need, file) {
+        Err(AllocFault::NoFit { need, file }) => match no_fit(alloc, need, file) {
             Ok(reply) => Ok(reply),
             Err(NoMemory) => Err(NoMemory),
         },
-        Err(Unmade::NoMemory) => Err(NoMemory),
+        Err(AllocFault::NoMemory) => Err(NoMemory),
     }
 }
 

@@ -12,8 +12,8 @@ use crate::task::Reply;
 use engine_core::Engine;
 use micro_isa::{Image, List, MOST_STEPS, NoMemory};
 use report_run::{Outcome, print_report};
-use run_journal::Run;
 use round_order::{EngineRun, run_engine};
+use run_journal::Run;
 use std::alloc::Global;
 use world::End;
 
@@ -82,11 +82,7 @@ fn file_of(alloc: Global, engine: &Engine) -> Result<List<u32>, NoMemory>
 }
 
 /// The report of a run as it stands.
-pub(crate) fn report_of_run(
-    alloc: Global,
-    need: Option<u32>,
-    run: &Run,
-) -> Result<Reply, NoMemory>
+pub(crate) fn report_of_run(alloc: Global, need: Option<u32>, run: &Run) -> Result<Reply, NoMemory>
     ensures status { IfOk result (λ r. r.status ≡ status_so_far (run_ending run.now.engine.core run.now.idle) run.now.engine.core.phases) }
     ensures text { IfOk result (λ r. r.text.items ≡ report_text need (Some run.now.engine.image) run.now.engine.image.setting.channels run.now.entries (record { view = shown_core run.now.engine.core; file = Some run.now.engine.file; ending = run_ending run.now.engine.core run.now.idle })) }
 {

@@ -12,9 +12,10 @@ ghost use Rattle.commands.specs.declared.status.Status.TheVariants as status;
 
 use crate::image_runs::report_of_run;
 use crate::journal_lines::{differs_line, illegal_line, unread_line};
-use crate::made::{Unmade, make_image, no_fit};
+use crate::no_fit::no_fit;
 use crate::status::Status;
 use crate::task::{JournalTask, Reply};
+use allocate::{AllocFault, allocate};
 use journal_text::{JournalFault, read_journal};
 use micro_isa::{Bundle, Image, LONGEST_JOURNAL, List, MOST_STEPS, NoMemory};
 use run_journal::{ReplayFault, Run, replay};
@@ -63,16 +64,22 @@ fn replay_bundle(
     requires short { length journal.now ≤ LONGEST_JOURNAL }
     ensures { IfOk result (λ r. TellsOfJournal (JournalTask.Replay steps) r.status bundle.now journal.now r.text.items) }
 {
-    match make_image(alloc, bundle) {
-        Ok(made) => match replay_image(alloc, &made.image, made.need, journal, steps) {
+    match allocate(alloc, bundle) {
+        Ok(allocation) => match replay_image(
+            alloc,
+            &allocation.image,
+            allocation.need,
+            journal,
+            steps,
+        ) {
             Ok(reply) => Ok(reply),
             Err(NoMemory) => Err(NoMemory),
         },
-        Err(Unmade::NoFit { need, file }) => match no_fit(alloc, need, file) {
+        Err(AllocFault::NoFit { need, file }) => match no_fit(alloc, need, file) {
             Ok(reply) => Ok(reply),
             Err(NoMemory) => Err(NoMemory),
         },
-        Err(Unmade::NoMemory) => Err(NoMemory),
+        Err(AllocFault::NoMemory) => Err(NoMemory),
     }
 }
 

@@ -8,7 +8,7 @@ mod image_runs;
 mod images;
 mod journal_lines;
 mod journals;
-mod made;
+mod no_fit;
 mod reports;
 mod sources;
 mod status;
