@@ -183,7 +183,11 @@ fn serves_and_refuses(rt: HostRuntime) -> Result<(), Fail> {
 
 /// `EXAMPLE` and lines behind it, what `replay` must write for them, and with which status.
 const REPLAYS: [(&[u8], &[u8], Status); 6] = [
-    (b"journal\nrun 0 4 send\nrun 0 1 halt\n", REPORT, Status::Done),
+    (
+        b"journal\nrun 0 4 send\nrun 0 1 halt\n",
+        REPORT,
+        Status::Done,
+    ),
     (b"journal", OPENING, Status::Done),
     (b"", OPENING, Status::Done),
     (
