@@ -1,0 +1,14 @@
+//! Runs of small bundles on both interpreters, which must agree after each event and show what a
+//! table says; images as bytes; and an image built by hand with words that are not counted.
+#![tactic(auto)]
+
+#[cfg(test)]
+mod agreement;
+#[cfg(test)]
+mod image_bytes;
+#[cfg(test)]
+mod instructions;
+#[cfg(test)]
+mod schedules;
+#[cfg(test)]
+mod uncounted;
