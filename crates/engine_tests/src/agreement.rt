@@ -3,11 +3,11 @@
 ghost use Rattle.std.specs.Prelude.{◌≡◌, None};
 ghost use Rattle.semantics.specs.Core.{illegal_of};
 
+use allocate::allocate;
 use asm_text::read_bundle;
 use engine_core::Engine;
 use micro_isa::{List, MOST_STEPS};
 use run_state::Interpreter;
-use sliced_image::{slice_image, sliced_need};
 use source_core::SourceRun;
 use std::alloc::Global;
 use std::test::Fail;
@@ -74,6 +74,16 @@ pub(crate) fn words_of(alloc: Global, text: &[u8]) -> Result<Vec<u32>, Fail> {
     Ok(words)
 }
 
+/// Runs the contexts of an order, one segment each, on both interpreters; where one may not run, both
+/// say so. A difference is a failure.
+pub(crate) fn follow(alloc: Global, text: &[u8], bound: u32, order: &[u32]) -> Result<(), Fail> {
+    let (mut source, mut engine) = opened(alloc, text, bound)?;
+    for context in order {
+        let _answer = agreed(alloc, &mut source, &mut engine, Event::Run(*context))?;
+    }
+    Ok(())
+}
+
 fn queued_in(channels: &List<List<u32>>) -> usize {
     let mut count = 0usize;
     for words in channels.as_slice() {
@@ -95,7 +105,7 @@ fn is_as_told(answer: Answer, expected: Expected) -> bool {
     }
 }
 
-/// Both interpreters at the opening of a bundle.
+/// The interpreter of the sources, and the engine of the allocated image, at the opening of a bundle.
 fn opened(alloc: Global, text: &[u8], bound: u32) -> Result<(SourceRun, Engine), Fail> {
     if text.len() > 4096 || bound > MOST_STEPS {
         return Err(Fail::from("the case is too large"));
@@ -103,12 +113,11 @@ fn opened(alloc: Global, text: &[u8], bound: u32) -> Result<(SourceRun, Engine),
     let Ok(bundle) = read_bundle(alloc, text) else {
         return Err(Fail::from("the text is no bundle"));
     };
-    if sliced_need(&bundle) > bundle.file {
+    let Ok(allocation) = allocate(alloc, &bundle) else {
         return Err(Fail::from("the bundle does not fit"));
-    }
+    };
     let source = SourceRun::open(alloc, &bundle, bound)?;
-    let image = slice_image(alloc, &bundle)?;
-    let engine = Engine::open(alloc, &image, bound)?;
+    let engine = Engine::of(alloc, allocation.image, bound)?;
     Ok((source, engine))
 }
 

@@ -1,5 +1,6 @@
-//! Runs of small bundles on both interpreters, which must agree after each event and show what a
-//! table says; images as bytes; and an image built by hand with words that are not counted.
+//! Runs of small bundles on both interpreters, the engine over the allocated image: they must agree
+//! after each event and show what a table says. Images as bytes; and an image built by hand with
+//! words that are not counted.
 #![tactic(auto)]
 
 #[cfg(test)]
@@ -10,5 +11,7 @@ mod image_bytes;
 mod instructions;
 #[cfg(test)]
 mod schedules;
+#[cfg(test)]
+mod sharing;
 #[cfg(test)]
 mod uncounted;

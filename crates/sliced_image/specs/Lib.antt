@@ -1,2 +1,0 @@
-pub mod Sliced
-pub mod Example
