@@ -1,12 +1,14 @@
-//! Where bytes come from and where they go, with counts of faults, and numbers as text.
+//! Where bytes come from and where they go, with counts of faults, numbers as text, and the gate of threads.
 #![tactic(auto)]
 
+mod gate;
 mod memory;
 mod number;
 mod standard;
 mod stream;
 mod whole;
 
+pub use gate::{Gate, NoGate};
 pub use memory::{MemSink, MemSource};
 pub use number::{put_number, read_number};
 pub use standard::{StdSink, StdSource};
