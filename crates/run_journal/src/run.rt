@@ -109,6 +109,8 @@ impl Run {
     #[tactic(auto, using(crate::proofs::Openings::opens_on))]
     pub fn attach<P: Port>(&mut self, slots: &Slots<P>)
         requires { self.old.entries ≡ [] }
+        ensures known { IsHistory self.old.engine self.old.entries }
+        ensures after { IsHistory self.new.engine self.new.entries }
         ensures entries { self.new.entries ≡ detached (channels_of self.old.engine) self.old.engine.core.world slots.now MOST_CHANNELS }
         ensures fresh { IsFresh self.new slots.now }
         ensures image { self.new.engine.image ≡ self.old.engine.image }
