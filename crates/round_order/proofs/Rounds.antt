@@ -1,16 +1,19 @@
 -- Turns in round order: who is next, and what a turn adds to the run so far.
 use Rattle.std.proofs.Common.{◌≡◌, ℕ, zero, suc, ◌+◌, ◌-◌, ◌<◌, ◌≤◌, List, [], ◌∷◌, ◌++◌, length, Option, Some, None, Bool, true, false, refl, sym, ap, ◌∙◌, subst, arith, inl, inr}
-use Rattle.std.specs.Prelude.{slice_get, nat_lt, find, ◌||◌, ◌⊎◌, if◌then◌else◌}
-use Rattle.std.specs.List.{list_any, list_all, range_with_len}
+use Rattle.std.specs.Prelude.{slice_get, nat_lt, find, ◌||◌, ◌&&◌, ◌⊎◌, if◌then◌else◌}
+use Rattle.std.specs.List.{list_any, list_all, flat_map, range_with_len}
 use Rattle.std.proofs.lemmas.Bool.{ltb-true, ltb-false, cases_eq}
 use Rattle.std.proofs.lemmas.Option.{same_Some}
 use Rattle.std.proofs.lemmas.List.{append-nil, append_assoc}
-use Rattle.std.proofs.lemmas.List.Folds.{find-append}
+use Rattle.std.proofs.lemmas.List.Folds.{find-append, list_all-append}
+use Rattle.std.proofs.lemmas.Grind.{flat_map-append}
 use Rattle.std.specs.Option.{option_or}
 use Rattle.micro_isa.specs.declared.limits.TheConstants.{MOST_CONTEXTS}
 use Rattle.world.specs.declared.event.Phase.{Phase}
 use Rattle.world.specs.declared.event.Event.TheVariants.{Run}
+use Rattle.world.specs.declared.event.Seen.{Seen}
 use Rattle.world.specs.declared.event.Seen.TheVariants as seen
+use Rattle.world.specs.declared.event.SegmentEnd.{SegmentEnd}
 use Rattle.world.specs.declared.event.Segment.{Segment}
 use Rattle.world.specs.declared.event.Entry.{Entry}
 use Rattle.world.specs.declared.event.Entry.TheVariants.{Ran}
@@ -18,11 +21,14 @@ use Rattle.world.specs.declared.event.Illegal.TheVariants as illegal
 use Rattle.world.specs.declared.event.End.TheVariants as ending
 use Rattle.world.specs.WorldState.{WorldState, has_open_input}
 use Rattle.semantics.specs.Core.{Core, can_go_on, is_runnable, illegal_of, has_ended, some_runnable, ending_of}
-use Rattle.semantics.specs.Rounds.{behind, next_in_round, first_round, round_after, round_of, KeepsOrder}
-use Rattle.semantics.specs.Events.{Semantics, Config, fire, unless_illegal}
-use Rattle.semantics.proofs.Histories.{leads_more, order_more, round_of-append}
+use Rattle.semantics.specs.Rounds.{behind, next_in_round}
+use Rattle.semantics.specs.Moves.{Turn, entries_of, first_round}
+use Rattle.semantics.specs.Entries.{entry_seen}
+use Rattle.semantics.specs.Events.{Semantics, Config, fire, step, unless_illegal}
+use Rattle.semantics.proofs.Moves.{rounds_more}
 use Rattle.run_state.specs.Segments.{GoesOn}
-use Rattle.round_order.specs.Journals.{IsTurn, IsRunSoFar, RanAs}
+use Rattle.round_order.specs.RoundRuns.{is_bare_turn}
+use Rattle.round_order.specs.Journals.{IsTurn, TakesTurns, IsRunSoFar, RanAs}
 
 -- a segment that may happen, and its entry
 pub turn_is : {X : Type 0} (rules : Semantics X) (before after : Config X) (c : ℕ) (s : Segment) → illegal_of before.core (Run c) ≡ None → fire rules before (Run c) ≡ (after, seen.Ran s) → IsTurn rules before after (Ran c s.steps s.end)
@@ -138,6 +144,20 @@ somebody_next core last goes closed h =
     or_left true b e h = refl
     or_left false b e h = absurd (cc)
 
+-- who is next can go on
+pub next_can : (core : Core) (last : Option ℕ) (c : ℕ) → next_in_round core last ≡ Some c → is_runnable core c ≡ true
+next_can core last c h = found (is_runnable core) (behind (length core.phases) last) c h
+
+nobody_by : (core : Core) (last : Option ℕ) (b : Bool) → some_runnable core ≡ b → next_in_round core last ≡ None → some_runnable core ≡ false
+nobody_by core last false e h = e
+nobody_by core last true e h =
+    let one = someone_in core.world core.phases e in
+    absurd (not_missed (is_runnable core) (behind (length core.phases) last) one.c (in_behind (length core.phases) one.c last one.there) one.can h)
+
+-- where nobody is next no context can go on
+pub nobody_next : (core : Core) (last : Option ℕ) → next_in_round core last ≡ None → some_runnable core ≡ false
+nobody_next core last h = nobody_by core last (some_runnable core) refl h
+
 there_where : (w : WorldState) (phases : List Phase) (c : ℕ) → can_go_on w (slice_get phases c) ≡ true → c < length phases
 there_where w [] c h = absurd (cc)
 there_where w (p ∷ ps) zero h = omega arith
@@ -159,30 +179,37 @@ next_is_legal core last c goes h =
 -- the turns begin behind the entries of the opening
 pub no_turn_yet : {X : Type 0} (rules : Semantics X) (before : Config X) (opening : List Entry) → has_open_input before.core.world ≡ false → IsRunSoFar rules before before opening opening None
 no_turn_yet rules before opening closed = record {
+  gone = record { moves = []; behind = sym (append-nil opening); order = (refl, refl); turns = refl };
   closed = closed;
-  on = λ first legal order none. (legal, order);
-  latest = λ none. none;
   small = λ x is. absurd (cc);
-  rest = [];
-  begins = sym (append-nil opening);
 }
+
+and_true : (a b : Bool) → a ≡ true → b ≡ true → (a && b) ≡ true
+and_true true b e f = f
+and_true false b e f = e
+
+-- a turn more
+takes_more : {X : Type 0} (rules : Semantics X) (before now after : Config X) (opening entries : List Entry) (last : Option ℕ) (c steps : ℕ) (end : SegmentEnd) (seen : Seen) → TakesTurns rules before now opening entries last → next_in_round now.core last ≡ Some c → step rules now (Run c) ≡ Some (after, seen) → entry_seen (Ran c steps end) seen ≡ Ran c steps end → TakesTurns rules before after opening (entries ++ Ran c steps end ∷ []) (Some c)
+takes_more rules before now after opening entries last c steps end seen gone next did told =
+    let move = Turn c steps end None in
+    record {
+      moves = gone.moves ++ move ∷ [];
+      behind = ap (λ l. l ++ Ran c steps end ∷ []) gone.behind
+          ∙ append_assoc opening (flat_map entries_of gone.moves) (Ran c steps end ∷ [])
+          ∙ ap (λ l. opening ++ l) (sym (flat_map-append entries_of gone.moves (move ∷ [])));
+      order = rounds_more rules before now after first_round (record { last = last; idle = 0 }) gone.moves move gone.order (next, tt) (after, seen, did, told, refl);
+      turns = list_all-append is_bare_turn gone.moves (move ∷ []) ∙ and_true (list_all is_bare_turn gone.moves) true gone.turns refl;
+    }
 
 -- a turn adds its entry to the journal
 pub turn_more : {X : Type 0} (rules : Semantics X) (before now after : Config X) (opening entries : List Entry) (last : Option ℕ) (c : ℕ) (e : Entry) → IsRunSoFar rules before now opening entries last → next_in_round now.core last ≡ Some c → GoesOn now.core after.core → IsTurn rules now after e → RanAs c e → c < MOST_CONTEXTS → IsRunSoFar rules before after opening (entries ++ e ∷ []) (Some c)
-turn_more rules before now after opening entries last c e so next goes turn ran low = record {
-  closed = goes.inputs ∙ so.closed;
-  on = λ first legal order none. let given = so.on first legal order none in (
-    leads_more rules first now after entries e turn.seen given.0 turn.happened turn.told,
-    order_more rules first now first_round entries e given.0 given.1 (keeps none),
-  );
-  latest = λ none. round_of-append first_round entries e ∙ ap (round_after (round_of first_round entries)) ran.2;
-  small = λ x is. subst (λ y. y < MOST_CONTEXTS) (same_Some c x is) low;
-  rest = so.rest ++ e ∷ [];
-  begins = ap (λ l. l ++ e ∷ []) so.begins ∙ append_assoc opening so.rest (e ∷ []);
-}
-  where
-    keeps : round_of first_round opening ≡ first_round → KeepsOrder now.core (round_of first_round entries) e
-    keeps none = subst (λ x. KeepsOrder now.core (round_of first_round entries) x) (sym ran.2) (ap (λ r. next_in_round now.core r.last) (so.latest none) ∙ next)
+turn_more rules before now after opening entries last c e so next goes turn ran low =
+    let is = subst (IsTurn rules now after) ran.2 turn in
+    record {
+      gone = subst (λ x. TakesTurns rules before after opening (entries ++ x ∷ []) (Some c)) (sym ran.2) (takes_more rules before now after opening entries last c ran.0 ran.1 is.seen so.gone next is.happened is.told);
+      closed = goes.inputs ∙ so.closed;
+      small = λ x same. subst (λ y. y < MOST_CONTEXTS) (same_Some c x same) low;
+    }
 
 -- the search behind a context, in two parts
 pub next_found : (p : ℕ → Bool) (n l c : ℕ) → Some c ≡ find p (range_with_len (l + 1) (n - (l + 1))) → Some c ≡ find p (behind n (Some l))

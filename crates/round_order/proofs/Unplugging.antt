@@ -1,7 +1,7 @@
 -- Unplugging one port after another at the opening of a run.
 use Rattle.std.proofs.Common.{◌≡◌, ◌≢◌, ℕ, zero, suc, ◌+◌, ◌-◌, ◌≤◌, List, [], ◌∷◌, ◌++◌, length, Bool, true, false, Option, Some, None, refl, sym, ap, ◌∙◌, subst, arith, inl, inr}
 use Rattle.std.specs.Prelude.{slice_get, ◌||◌, ◌&&◌, if◌then◌else◌}
-use Rattle.std.specs.List.{list_any}
+use Rattle.std.specs.List.{list_any, flat_map}
 use Rattle.std.proofs.lemmas.Bool.{cases_eq, cases_lt}
 use Rattle.std.proofs.lemmas.List.{append-nil}
 use Rattle.micro_isa.specs.declared.limits.TheConstants.{MOST_CHANNELS}
@@ -15,9 +15,11 @@ use Rattle.world.specs.WorldState.{WorldState, holds_at, is_plugged, changed_at,
 use Rattle.semantics.specs.Core.{Core}
 use Rattle.semantics.specs.Events.{Semantics, Config, step}
 use Rattle.semantics.specs.Entries.{LeadsTo}
-use Rattle.semantics.specs.Rounds.{first_round, round_after, round_of, AsksInOrder, InRoundOrder}
-use Rattle.semantics.proofs.Histories.{stepped, leads_more, leads_run, order_more, round_of-append}
-use Rattle.round_order.specs.Openings.{unplugs, unplugs_below, IsOpening, IsUnplugged}
+use Rattle.semantics.specs.Moves.{entries_of, first_round}
+use Rattle.semantics.specs.Openings.{unplugs, unplugs_below}
+use Rattle.semantics.proofs.Histories.{stepped, leads_more, leads_append, leads_run}
+use Rattle.semantics.proofs.Moves.{rounds_lead}
+use Rattle.round_order.specs.Openings.{IsOpening, IsUnplugged}
 use Rattle.round_order.specs.Journals.{UnpluggedBy, UnpluggedAt, IsOpened, IsJournalOn}
 use Rattle.round_order.specs.RoundRuns.{IsRoundRun}
 
@@ -95,32 +97,39 @@ past_all (ch ∷ chs) n zero few le = absurd (omega (arith, few, le))
 past_all (ch ∷ chs) n (suc j) few le = past_all chs j j (omega (arith, few, le)) (omega arith)
 
 -- there is nothing to unplug behind the last channel
-none_behind : (w : WorldState) (k : ℕ) → unplugs_below w (length w.channels + k) ≡ unplugs w
-none_behind w zero = let e : length w.channels + zero ≡ length w.channels = omega arith in ap (unplugs_below w) e
+none_behind : (w : WorldState) (k : ℕ) → unplugs_below (is_plugged w) (length w.channels + k) ≡ unplugs w
+none_behind w zero = let e : length w.channels + zero ≡ length w.channels = omega arith in ap (unplugs_below (is_plugged w)) e
 none_behind w (suc k) =
     let e : length w.channels + suc k ≡ suc (length w.channels + k) = omega arith in
-    ap (unplugs_below w) e
-    ∙ ap (λ b. unplugs_below w (length w.channels + k) ++ (if b then Unplugged (length w.channels + k) ∷ [] else [])) (past_all w.channels (length w.channels) (length w.channels + k) (omega arith) (omega arith))
-    ∙ append-nil (unplugs_below w (length w.channels + k))
+    ap (unplugs_below (is_plugged w)) e
+    ∙ ap (λ b. unplugs_below (is_plugged w) (length w.channels + k) ++ (if b then Unplugged (length w.channels + k) ∷ [] else [])) (past_all w.channels (length w.channels) (length w.channels + k) (omega arith) (omega arith))
+    ∙ append-nil (unplugs_below (is_plugged w) (length w.channels + k))
     ∙ none_behind w k
 
-all_unplugs : (w : WorldState) (n : ℕ) → length w.channels ≤ n → unplugs_below w n ≡ unplugs w
+all_unplugs : (w : WorldState) (n : ℕ) → length w.channels ≤ n → unplugs_below (is_plugged w) n ≡ unplugs w
 all_unplugs w n le =
     let e : n ≡ length w.channels + (n - length w.channels) = omega (arith, le) in
-    ap (unplugs_below w) e ∙ none_behind w (n - length w.channels)
+    ap (unplugs_below (is_plugged w)) e ∙ none_behind w (n - length w.channels)
 
 -- the opening's unplugging and the turns behind it are one run
 pub whole_run : {X : Type 0} (rules : Semantics X) (before middle after : Config X) (opening entries : List Entry) (end : End) → IsOpening before.core → IsOpened rules before MOST_CHANNELS middle opening → IsJournalOn rules middle after opening entries end → IsRoundRun rules before after entries end
 whole_run rules before middle after opening entries end begins opened on =
-    let whole = on.on before opened.legal opened.order opened.none in
-    let ran = leads_run rules before after entries whole.0 in
+    let gone = on.gone in
+    let first = opened.told ∙ all_unplugs before.core.world MOST_CHANNELS begins.few in
+    let turns = rounds_lead rules middle after first_round (record { last = on.last; idle = 0 }) gone.moves gone.order in
+    let legal = subst (λ l. LeadsTo rules before l after) (sym gone.behind) (leads_append rules before middle after opening (flat_map entries_of gone.moves) opened.legal turns) in
+    let ran = leads_run rules before after entries legal in
     record {
-      legal = whole.0;
+      legal = legal;
       seen = ran.0;
       ran = ran.1;
-      rest = on.rest;
-      begins = on.begins ∙ ap (λ l. l ++ on.rest) (opened.told ∙ all_unplugs before.core.world MOST_CHANNELS begins.few);
-      order = whole.1;
+      moves = gone.moves;
+      begins = gone.behind ∙ ap (λ l. l ++ flat_map entries_of gone.moves) first;
+      opened = middle;
+      opening = subst (λ l. LeadsTo rules before l middle) first opened.legal;
+      round = record { last = on.last; idle = 0 };
+      order = gone.order;
+      turns = gone.turns;
       ended = on.ended;
     }
 
@@ -140,15 +149,15 @@ was_not_plugged rules before k es free = subst (λ b. UnpluggedBy b rules before
 
 -- the opening, before the first channel was looked at
 pub opened_at_start : {X : Type 0} (rules : Semantics X) (before : Config X) → IsOpening before.core → IsOpened rules before 0 before []
-opened_at_start rules before opening = record { unplugged = at_start before.core opening; legal = refl; order = tt; told = refl; none = refl }
+opened_at_start rules before opening = record { unplugged = at_start before.core opening; legal = refl; told = refl }
 
 one_up : (k : ℕ) → suc k ≡ k + 1
 one_up k = omega arith
 
 -- the entries of the channels below the next one
-told_more : (w : WorldState) (k : ℕ) (b : Bool) (es : List Entry) → es ≡ unplugs_below w k → is_plugged w k ≡ b → es ++ (if b then Unplugged k ∷ [] else []) ≡ unplugs_below w (suc k)
+told_more : (w : WorldState) (k : ℕ) (b : Bool) (es : List Entry) → es ≡ unplugs_below (is_plugged w) k → is_plugged w k ≡ b → es ++ (if b then Unplugged k ∷ [] else []) ≡ unplugs_below (is_plugged w) (suc k)
 told_more w k b es told is =
-    ap (λ l. l ++ (if b then Unplugged k ∷ [] else [])) told ∙ ap (λ x. unplugs_below w k ++ (if x then Unplugged k ∷ [] else [])) (sym is)
+    ap (λ l. l ++ (if b then Unplugged k ∷ [] else [])) told ∙ ap (λ x. unplugs_below (is_plugged w) k ++ (if x then Unplugged k ∷ [] else [])) (sym is)
 
 opened_by : {X : Type 0} (rules : Semantics X) (first before after : Config X) (k : ℕ) (es es' : List Entry) (b : Bool) → IsOpened rules first k before es → is_plugged before.core.world k ≡ b → UnpluggedBy b rules before after k es es' → IsOpened rules first (suc k) after es'
 opened_by {X} rules first before after k es es' true so plugged did =
@@ -156,16 +165,12 @@ opened_by {X} rules first before after k es es' true so plugged did =
     in record {
       unplugged = one_more first.core.world k before.core after.core so.unplugged (sym (ap (λ p. p.0.core) happened));
       legal = subst (λ l. LeadsTo rules first l after) (sym did.1) (leads_more rules first before after es (Unplugged k) seen.Unplugged so.legal did.0 refl);
-      order = subst (λ l. InRoundOrder rules first first_round l) (sym did.1) (order_more rules first before first_round es (Unplugged k) so.legal so.order (subst (λ r. AsksInOrder r.pump k) (sym so.none) tt));
       told = did.1 ∙ told_more first.core.world k true es so.told (sym (so.unplugged.rest k (omega arith)) ∙ plugged);
-      none = ap (round_of first_round) did.1 ∙ round_of-append first_round es (Unplugged k) ∙ ap (λ r. round_after r (Unplugged k)) so.none;
     }
 opened_by {X} rules first before after k es es' false so free did = record {
   unplugged = subst (λ m. IsUnplugged first.core.world (suc k) m.core) (sym did.0) (none_there first.core.world k before.core so.unplugged free);
   legal = subst (λ l. LeadsTo rules first l after) (sym did.1) (subst (λ m. LeadsTo rules first es m) (sym did.0) so.legal);
-  order = subst (λ l. InRoundOrder rules first first_round l) (sym did.1) so.order;
   told = did.1 ∙ sym (append-nil es) ∙ told_more first.core.world k false es so.told (sym (so.unplugged.rest k (omega arith)) ∙ free);
-  none = ap (round_of first_round) did.1 ∙ so.none;
 }
 
 -- one channel more

@@ -1,6 +1,7 @@
 -- What the journal of a run in round order has come to, turn by turn.
 use Rattle.std.specs.Prelude.{◌≡◌, ℕ, ◌<◌, List, [], ◌∷◌, ◌++◌, Bool, true, false, Option, Some, None}
 use Rattle.std.specs.Option.{ForSome}
+use Rattle.std.specs.List.{list_all, flat_map}
 use Rattle.micro_isa.specs.declared.limits.TheConstants.{MOST_CONTEXTS}
 use Rattle.world.specs.declared.event.Event.TheVariants.{Unplug}
 use Rattle.world.specs.declared.event.Entry.{Entry}
@@ -13,8 +14,10 @@ use Rattle.world.specs.WorldState.{has_open_input, is_plugged}
 use Rattle.semantics.specs.Core.{ending_of}
 use Rattle.semantics.specs.Events.{Semantics, Config, step}
 use Rattle.semantics.specs.Entries.{event_of, entry_seen, LeadsTo}
-use Rattle.semantics.specs.Rounds.{first_round, round_of, InRoundOrder}
-use Rattle.round_order.specs.Openings.{IsUnplugged, unplugs_below}
+use Rattle.semantics.specs.Moves.{Move, entries_of, first_round, RoundsTo}
+use Rattle.semantics.specs.Openings.{unplugs_below}
+use Rattle.round_order.specs.Openings.{IsUnplugged}
+use Rattle.round_order.specs.RoundRuns.{is_bare_turn}
 
 -- an event that may happen, and the entry that tells it
 pub record IsTurn {X : Type 0} (rules : Semantics X) (before after : Config X) (e : Entry) : Type 0 where
@@ -35,29 +38,25 @@ UnpluggedAt rules before after k entries entries' = UnpluggedBy (is_plugged befo
 pub record IsOpened {X : Type 0} (rules : Semantics X) (before : Config X) (k : ℕ) (now : Config X) (entries : List Entry) : Type 0 where
   pub unplugged : IsUnplugged before.core.world k now.core
   pub legal : LeadsTo rules before entries now
-  pub order : InRoundOrder rules before first_round entries
-  pub told : entries ≡ unplugs_below before.core.world k
-  pub none : round_of first_round entries ≡ first_round
+  pub told : entries ≡ unplugs_below (is_plugged before.core.world) k
 
--- what leads to a configuration goes on with turns in round order to another
-abbrev pub GoesOnTo : {X : Type 0} → Semantics X → Config X → Config X → List Entry → List Entry → Type 0
-GoesOnTo {X} rules before now opening entries =
-    (first : Config X) → LeadsTo rules first opening before → InRoundOrder rules first first_round opening → round_of first_round opening ≡ first_round → LeadsTo rules first entries now × InRoundOrder rules first first_round entries
+-- turns in round order go on from a configuration to another, behind the entries of an opening; the last context that ran
+pub record TakesTurns {X : Type 0} (rules : Semantics X) (before now : Config X) (opening entries : List Entry) (last : Option ℕ) : Type 0 where
+  pub moves : List Move
+  pub behind : entries ≡ opening ++ flat_map entries_of moves
+  pub order : RoundsTo rules before first_round moves now (record { last = last; idle = 0 })
+  pub turns : list_all is_bare_turn moves ≡ true
 
--- turns that go on behind the entries of an opening: the journal so far, and the last context that ran
+-- turns that go on while no word can come from outside
 pub record IsRunSoFar {X : Type 0} (rules : Semantics X) (before now : Config X) (opening entries : List Entry) (last : Option ℕ) : Type 0 where
+  pub gone : TakesTurns rules before now opening entries last
   pub closed : has_open_input now.core.world ≡ false
-  pub on : GoesOnTo rules before now opening entries
-  pub latest : round_of first_round opening ≡ first_round → round_of first_round entries ≡ record { last = last; pump = None }
   pub small : ForSome last (λ c. c < MOST_CONTEXTS)
-  pub rest : List Entry
-  pub begins : entries ≡ opening ++ rest
 
--- behind the entries of an opening: a journal goes on with turns in round order to an ending
+-- turns that went on to an ending
 pub record IsJournalOn {X : Type 0} (rules : Semantics X) (before after : Config X) (opening entries : List Entry) (end : End) : Type 0 where
-  pub on : GoesOnTo rules before after opening entries
-  pub rest : List Entry
-  pub begins : entries ≡ opening ++ rest
+  pub last : Option ℕ
+  pub gone : TakesTurns rules before after opening entries last
   pub ended : ending_of after.core ≡ Some end
 
 -- an entry tells a segment of this context

@@ -5,4 +5,5 @@ mod opening;
 mod order;
 mod runs;
 
+pub use order::next_in_round;
 pub use runs::{EngineRun, SourceRounds, run_engine, run_source};

@@ -1,12 +1,12 @@
 //! Turns one after another, with their journal.
 
-ghost use Rattle.std.specs.Prelude.{◌≡◌, ◌+◌, ◌-◌, ◌<◌, ◌∷◌, ◌++◌, IfOk, OnOk, IfSome, None, Some, false, find, length};
+ghost use Rattle.std.specs.Prelude.{◌≡◌, ◌+◌, ◌-◌, ◌<◌, ◌∷◌, ◌++◌, IfOk, OnOk, IfSome, None, Some, true, false, find, length};
 ghost use Rattle.std.specs.List.{range_with_len};
 ghost use Rattle.std.specs.Option.{ForSome};
 ghost use Rattle.micro_isa.specs.declared.limits.TheConstants.{MOST_CONTEXTS};
 ghost use Rattle.world.specs.WorldState.{has_open_input};
 ghost use Rattle.world.specs.declared.event.Event.TheVariants.{Run as RunOf};
-ghost use Rattle.semantics.specs.Core.{illegal_of, is_runnable, ending_of};
+ghost use Rattle.semantics.specs.Core.{illegal_of, is_runnable, some_runnable, ending_of};
 ghost use Rattle.semantics.specs.Rounds.{next_in_round};
 ghost use Rattle.run_state.specs.Segments.{GoesOn};
 ghost use Rattle.round_order.specs.Journals.{IsTurn, IsJournalOn, RanAs};
@@ -91,8 +91,21 @@ fn next_context<I: Interpreter>(run: &I, last: Option<u32>) -> u32
     }
 }
 
+/// The context whose turn is next: the first one that can go on behind the last one that ran, in
+/// cyclic order, context 0 at first. None exactly where no context can go on.
+#[tactic(auto, using(crate::proofs::Rounds::next_can, crate::proofs::Rounds::nobody_next))]
+pub fn next_in_round<I: Interpreter>(run: &I, last: Option<u32>) -> Option<u32>
+    requires { ForSome last (λ c. c < MOST_CONTEXTS) }
+    ensures next { result ≡ next_in_round (I.config run.now).core last }
+    ensures small { IfSome result (λ c. c < MOST_CONTEXTS) }
+    ensures can { IfSome result (λ c. is_runnable (I.config run.now).core c ≡ true) }
+    ensures nobody { result ≡ None → some_runnable (I.config run.now).core ≡ false }
+{
+    first_behind(run, last)
+}
+
 /// The first runnable context behind the last one that ran, in cyclic order.
-fn next_in_round<I: Interpreter>(run: &I, last: Option<u32>) -> Option<u32>
+fn first_behind<I: Interpreter>(run: &I, last: Option<u32>) -> Option<u32>
     requires { ForSome last (λ c. c < MOST_CONTEXTS) }
     ensures next { result ≡ next_in_round (I.config run.now).core last }
     ensures small { IfSome result (λ c. c < MOST_CONTEXTS) }

@@ -11,6 +11,7 @@ use Rattle.semantics.specs.Core.{Core, illegal_of}
 use Rattle.semantics.specs.Events.{Semantics, Config, step, fire}
 use Rattle.semantics.specs.Entries.{LeadsTo}
 use Rattle.semantics.specs.Machine.{machine_semantics}
+use Rattle.semantics.proofs.Histories.{leads_append}
 use Rattle.semantics.proofs.Waiting.{legal}
 use Rattle.run_state.specs.Segments.{GoesOn}
 use Rattle.engine_core.specs.EngineState.{EngineState, config_of}
@@ -70,11 +71,6 @@ went_lost e e' es es' k h goes plugged image did added = record {
   leads = (config_of e', seen.Unplugged, did, refl, refl);
   left = lost_one_left e e' k goes plugged did;
 }
-
--- entries that lead on
-pub leads_append : {X : Type 0} (rules : Semantics X) (m n last : Config X) (xs ys : List Entry) → LeadsTo rules m xs n → LeadsTo rules n ys last → LeadsTo rules m (xs ++ ys) last
-leads_append rules m n last [] ys a b = subst (λ x. LeadsTo rules x ys last) (sym a) b
-leads_append rules m n last (x ∷ xs) ys a b = (a.0, a.1, a.2, a.3, leads_append rules a.0 n last xs ys a.4 b)
 
 -- nothing went
 pub went_none : (e : EngineState) (es : List Entry) → IsHistory e es → Went e e es es []

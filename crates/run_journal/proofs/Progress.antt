@@ -32,7 +32,7 @@ one_entry k (Some polled.Empty) = refl
 one_entry k (Some polled.Closed) = refl
 one_entry k (Some polled.Failed) = refl
 
-pumped_length : (k : ℕ) (rs : List (Option Polled)) → length (entries_from k rs) ≡ fed_in rs + dropped_in rs
+pub pumped_length : (k : ℕ) (rs : List (Option Polled)) → length (entries_from k rs) ≡ fed_in rs + dropped_in rs
 pumped_length k [] = refl
 pumped_length k (a ∷ rs) = omega (arith, length-append (answered k a) (entries_from (k + 1) rs), one_entry k a, pumped_length (k + 1) rs)
 

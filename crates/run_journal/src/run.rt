@@ -93,6 +93,7 @@ impl Run {
     pub fn engine(&self) -> &Engine
         ensures engine { result.now ≡ self.now.engine }
         ensures known { IsHistory self.now.engine self.now.entries }
+        ensures quiet { IsIdle self.now.engine.core self.now.idle }
     {
         &self.engine
     }

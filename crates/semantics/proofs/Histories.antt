@@ -22,6 +22,14 @@ legal_step rules m e legal = ap (λ o. unless_illegal o (fire rules m e)) legal
 pub stepped : {X : Type 0} (rules : Semantics X) (m n : Config X) (e : Event) (s : Seen) → step rules m e ≡ Some (n, s) → fire rules m e ≡ (n, s)
 stepped rules m n e s h = stepped_by rules m n e s (illegal_of m.core e) h
 
+may_by : {A : Type 0} (o : Option Illegal) (a b : A) → unless_illegal o a ≡ Some b → o ≡ None
+may_by None a b h = refl
+may_by (Some why) a b h = absurd (cc)
+
+-- and it may happen
+pub may_happen : {X : Type 0} (rules : Semantics X) (m n : Config X) (e : Event) (s : Seen) → step rules m e ≡ Some (n, s) → illegal_of m.core e ≡ None
+may_happen rules m n e s h = may_by (illegal_of m.core e) (fire rules m e) (n, s) h
+
 -- one entry more
 pub leads_more : {X : Type 0} (rules : Semantics X) (m last next : Config X) (es : List Entry) (e : Entry) (s : Seen) → LeadsTo rules m es last → step rules last (event_of e) ≡ Some (next, s) → entry_seen e s ≡ e → LeadsTo rules m (es ++ e ∷ []) next
 leads_more rules m last next [] e s leads goes told = (next, s, ap (λ x. step rules x (event_of e)) leads ∙ goes, told, refl)
@@ -41,6 +49,11 @@ order_more rules m last before (x ∷ xs) e leads order keeps =
 pub round_of-append : (before : Round) (es : List Entry) (e : Entry) → round_of before (es ++ e ∷ []) ≡ round_after (round_of before es) e
 round_of-append before [] e = refl
 round_of-append before (x ∷ xs) e = round_of-append (round_after before x) xs e
+
+-- entries that are legal behind legal ones
+pub leads_append : {X : Type 0} (rules : Semantics X) (m n last : Config X) (xs ys : List Entry) → LeadsTo rules m xs n → LeadsTo rules n ys last → LeadsTo rules m (xs ++ ys) last
+leads_append rules m n last [] ys a b = subst (λ x. LeadsTo rules x ys last) (sym a) b
+leads_append rules m n last (x ∷ xs) ys a b = (a.0, a.1, a.2, a.3, leads_append rules a.0 n last xs ys a.4 b)
 
 -- entries that are legal are a run of their events
 pub leads_run : {X : Type 0} (rules : Semantics X) (m last : Config X) (es : List Entry) → LeadsTo rules m es last → (seen : List Seen) × (run rules m (map event_of es) ≡ Some (last, seen))

@@ -4,3 +4,4 @@ pub mod Waiting
 pub mod Ports
 pub mod Histories
 pub mod Settling
+pub mod Moves

@@ -7,3 +7,5 @@ pub mod Machine
 pub mod Agreement
 pub mod Entries
 pub mod Rounds
+pub mod Moves
+pub mod Openings
