@@ -4,7 +4,7 @@ use Rattle.std.specs.Prelude.{◌==◌, ◌-◌, nat_lt, if◌then◌else◌, is
 use Rattle.std.proofs.lemmas.Bool.{cases_eq}
 use Rattle.std.proofs.lemmas.Bool.Decides.{nat_tests}
 use Rattle.micro_isa.specs.declared.image.PReg.{PReg}
-use Rattle.edge_moves.specs.MoveSteps.{Pair, moving, without, steps_from, move_steps}
+use Rattle.edge_moves.specs.MoveSteps.{Pair, moving, first_free, without, steps_from, move_steps}
 use Rattle.edge_moves.specs.ParallelMove.{is_target, AreDistinct, IsFree}
 use Rattle.edge_moves.specs.Costs.{LeadBack, AreCycles, pairs_of, SamePairs, cycles_cost, most_steps, CostsByCycle}
 use Rattle.edge_moves.specs.Tally.{outside, inside, openings, sum_of, counted}
@@ -127,6 +127,17 @@ cost_law pairs has_free d =
       closed = closed s.rings (inside n left) s.are;
       sum = sum_by n left s has_free;
     }
+
+-- the pairs that move something are those outside cycles and those on cycles
+pub parts : (pairs : List Pair) → AreDistinct pairs → length (outside (length pairs) (moving pairs)) + length (inside (length pairs) (moving pairs)) ≡ length (moving pairs)
+parts pairs d =
+    let n = length pairs in
+    let left = moving pairs in
+    let s = split n left (length-moving pairs) (remains pairs d) in
+    omega (arith, s.same.number, s.same_inside.number, length-append (outside n left) (pairs_of (cycles_of (inside n left) s.rings)))
+
+pub all_on_cycles : (pairs : List Pair) → AreDistinct pairs → first_free (inside (length pairs) (moving pairs)) (inside (length pairs) (moving pairs)) ≡ None
+all_on_cycles pairs d = (settles (length pairs) (moving pairs) (length-moving pairs) (remains pairs d)).stuck
 
 -- the registers are below 256, so there are at most as many pairs
 pub few_pairs : (pairs : List Pair) → AreDistinct pairs → ((q : ℕ) → is_target pairs q ≡ true → q < 256) → length (outside (length pairs) (moving pairs)) + length (inside (length pairs) (moving pairs)) ≤ 256

@@ -44,11 +44,11 @@ kept_source (p ∷ ps) h u q d s ne k = grind (arith, nat_tests, kept_source ps 
     kept_all [] h q t k = absurd (cc)
     kept_all (p ∷ ps) h q t k = grind (arith, nat_tests, kept_all ps h q)
 
-dropped_source : (ps : List Pair) (h u : ℕ) → AreDistinct ps → source_to ps h ≡ Some u → is_source (without h ps) u ≡ false
+pub dropped_source : (ps : List Pair) (h u : ℕ) → AreDistinct ps → source_to ps h ≡ Some u → is_source (without h ps) u ≡ false
 dropped_source [] h u d s = absurd (cc)
 dropped_source (p ∷ ps) h u d s = grind (arith, nat_tests, dropped_source ps h u, source_is ps h u, is_source-without h u ps, d.0, d.1)
 
-was_target : (ps : List Pair) (h q : ℕ) → is_target (without h ps) q ≡ true → (is_target ps q ≡ true) × (q ≢ h)
+pub was_target : (ps : List Pair) (h q : ℕ) → is_target (without h ps) q ≡ true → (is_target ps q ≡ true) × (q ≢ h)
 was_target [] h q t = absurd (cc)
 was_target (p ∷ ps) h q t = (grind (arith, nat_tests, was_target ps h q), grind (arith, nat_tests, was_target ps h q))
 

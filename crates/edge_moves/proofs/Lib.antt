@@ -2,9 +2,11 @@ pub mod Bounds
 pub mod CostLaw
 pub mod Cycles
 pub mod Lists
-pub mod Marks
 pub mod Openings
+pub mod Orders
 pub mod Outside
 pub mod Parallel
+pub mod Passes
 pub mod Rings
 pub mod Sources
+pub mod Tables

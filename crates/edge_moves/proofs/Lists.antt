@@ -1,6 +1,6 @@
 -- Lists of pairs, seen by their sources and targets.
-use Rattle.std.proofs.Common.{◌≡◌, ◌≢◌, ℕ, zero, suc, ◌<◌, ◌≤◌, List, [], ◌∷◌, length, Some, None, Bool, true, false, refl, sym, ap, ◌∙◌, subst, arith}
-use Rattle.std.specs.Prelude.{not, slice_get, ◌==◌, if◌then◌else◌}
+use Rattle.std.proofs.Common.{◌≡◌, ◌≢◌, ℕ, zero, suc, ◌+◌, ◌<◌, ◌≤◌, List, [], ◌∷◌, length, drop, drop-cons, Some, None, Bool, true, false, refl, sym, ap, ◌∙◌, subst, arith}
+use Rattle.std.specs.Prelude.{not, slice_get, slice_index_or, ◌==◌, if◌then◌else◌}
 use Rattle.std.proofs.lemmas.Bool.Decides.{nat_tests}
 use Rattle.micro_isa.specs.declared.image.PReg.{PReg}
 use Rattle.edge_moves.specs.MoveSteps.{Pair, moving, is_source, first_free, without, renamed, target_of}
@@ -272,3 +272,7 @@ pub source_at : (ps : List Pair) (i : ℕ) (p : Pair) → AreDistinct ps → sli
 source_at [] i p d h = absurd (cc)
 source_at (h ∷ ps) zero p d e = let same : h ≡ p = cc in grind (arith, nat_tests)
 source_at (h ∷ ps) (suc i) p d e = grind (arith, nat_tests, source_at ps i p, target_at ps i p)
+
+-- the pairs from one on
+pub drop_pair : (ps : List Pair) (i : ℕ) (d : Pair) → i < length ps → drop i ps ≡ slice_index_or ps i d ∷ drop (i + 1) ps
+drop_pair ps i d h = let next : suc i ≡ i + 1 = omega arith in drop-cons ps i d h ∙ ap (λ k. slice_index_or ps i d ∷ drop k ps) next

@@ -24,7 +24,7 @@ pub length-without-one : (t : ℕ) (ps : List Pair) → AreDistinct ps → is_ta
 length-without-one t [] d h = absurd (cc)
 length-without-one t (p ∷ ps) d h = grind (arith, nat_tests, length-without-one t ps d.2, without_none t ps, d.1)
 
-without-without : (a b : ℕ) (ps : List Pair) → without a (without b ps) ≡ without b (without a ps)
+pub without-without : (a b : ℕ) (ps : List Pair) → without a (without b ps) ≡ without b (without a ps)
 without-without a b [] = refl
 without-without a b (p ∷ ps) = grind (arith, nat_tests, without-without a b ps)
 

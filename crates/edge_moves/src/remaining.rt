@@ -6,7 +6,7 @@ use micro_isa::PReg;
 
 /// The sources of the remaining pairs.
 #[tactic(auto, using(crate::proofs::Sources::none_marked, crate::proofs::Sources::source_next))]
-fn sources_of(left: &[(PReg, PReg)]) -> RegisterSet
+pub fn sources_of(left: &[(PReg, PReg)]) -> RegisterSet
     ensures { (q : ℕ) → slice_index_or result q false ≡ is_source left.now q }
 {
     let mut sources = [false; 256];

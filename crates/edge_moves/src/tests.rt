@@ -31,6 +31,12 @@ fn expect(
     requires free { IsFree pairs.now free }
 {
     assert_eq!(rt; cost(pairs, free.is_some()) as usize, want.len());
+    let both = costs(pairs);
+    let counted = match free {
+        Some(_) => both.with_free,
+        None => both.without,
+    };
+    assert_eq!(rt; counted as usize, want.len());
     let done = sequence(alloc, pairs, free);
     assert!(rt; done.is_ok());
     if let Ok(steps) = done {
