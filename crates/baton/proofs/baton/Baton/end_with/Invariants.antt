@@ -1,0 +1,9 @@
+use Rattle.std.proofs.Common.{◌≡◌}
+use Rattle.baton.specs.Passes.{IsOfBaton, IsIdle}
+use Rattle.baton.proofs.baton.Baton.end_with.Given as goal
+
+abbrev pub invariant-loop : goal.invariant-loop
+invariant-loop g l =
+    (goal.iterator-loop g).can_next l.iterator' × (goal.iterator-loop g).is_finite l.iterator'
+    × IsOfBaton g.T.Storied.origin l.self.table.shared l.pass.seat × IsIdle l.pass.seat
+    × (l.pass.seat.me.0.seen ≡ l.initial.pass.seat.me.0.seen) × (l.pass.seat.me.0.mine ≡ l.initial.pass.seat.me.0.mine)
