@@ -1,0 +1,5 @@
+mod Bundling
+mod Drafting
+mod Forming
+mod Numbering
+mod Ordering
