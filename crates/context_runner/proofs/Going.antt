@@ -1,15 +1,14 @@
 -- Moves in round order, one after another.
-use Rattle.std.proofs.Common.{◌≡◌, ℕ, ◌<◌, ◌≤◌, List, [], ◌∷◌, ◌++◌, length, Option, Some, None, Bool, true, refl, sym, ap, ◌∙◌, subst, append_assoc, arith}
+use Rattle.std.proofs.Common.{◌≡◌, ℕ, ◌<◌, ◌≤◌, List, [], ◌∷◌, ◌++◌, length, Option, Some, None, true, refl, sym, ap, ◌∙◌, subst, append_assoc, arith}
 use Rattle.std.specs.List.{flat_map}
 use Rattle.std.specs.Prelude.{if◌then◌else◌, ◌==◌}
 use Rattle.std.specs.Option.{ForSome, is_some, option_or}
 use Rattle.std.proofs.lemmas.Grind.{flat_map-append}
 use Rattle.std.proofs.lemmas.List.{append-nil}
 use Rattle.micro_isa.specs.declared.limits.TheConstants.{MOST_CONTEXTS}
-use Rattle.micro_isa.specs.declared.image.Image.{Image}
 use Rattle.semantics.specs.Entries.{LeadsTo}
 use Rattle.semantics.specs.Machine.{machine_semantics}
-use Rattle.semantics.specs.Moves.{Move, entries_of, last_of, Round, round_behind, MayCome, RoundsTo}
+use Rattle.semantics.specs.Moves.{entries_of, last_of, round_behind, MayCome, RoundsTo}
 use Rattle.semantics.proofs.Moves.{rounds_more, last_of-append, last_behind, last_there}
 use Rattle.engine_core.specs.EngineState.{config_of}
 use Rattle.ports.specs.declared.told.Told.{Told}

@@ -1,5 +1,5 @@
 -- A pump, where nobody is next, is a move in round order.
-use Rattle.std.proofs.Common.{◌≡◌, ℕ, zero, suc, ◌+◌, ◌<◌, ◌≤◌, List, [], ◌∷◌, ◌++◌, length, Option, Some, None, Bool, true, false, refl, sym, ap, ◌∙◌, subst, arith}
+use Rattle.std.proofs.Common.{◌≡◌, ℕ, zero, suc, ◌+◌, ◌<◌, ◌≤◌, List, [], ◌∷◌, length, Option, Some, None, true, false, refl, sym, ap, ◌∙◌, arith}
 use Rattle.std.specs.Option.{is_some}
 use Rattle.std.proofs.lemmas.Bool.{lt-ltb}
 use Rattle.world.specs.declared.event.Entry.{Entry}
@@ -9,7 +9,6 @@ use Rattle.semantics.specs.Core.{Core, some_runnable, ending_of}
 use Rattle.semantics.specs.Rounds.{next_in_round}
 use Rattle.semantics.specs.Moves.{Pump, last_of, idle_behind, FromPump}
 use Rattle.semantics.proofs.Moves.{last_of-append, pumped_last}
-use Rattle.engine_core.specs.EngineState.{config_of}
 use Rattle.ports.specs.SlotsState.{SlotsState}
 use Rattle.ports.specs.declared.port.Polled.{Polled}
 use Rattle.ports.specs.declared.port.Polled.TheVariants as polled

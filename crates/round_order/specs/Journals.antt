@@ -1,5 +1,5 @@
 -- What the journal of a run in round order has come to, turn by turn.
-use Rattle.std.specs.Prelude.{◌≡◌, ℕ, ◌<◌, List, [], ◌∷◌, ◌++◌, Bool, true, false, Option, Some, None}
+use Rattle.std.specs.Prelude.{◌≡◌, ℕ, ◌<◌, List, [], ◌∷◌, ◌++◌, Bool, true, false, Option, Some}
 use Rattle.std.specs.Option.{ForSome}
 use Rattle.std.specs.List.{list_all, flat_map}
 use Rattle.micro_isa.specs.declared.limits.TheConstants.{MOST_CONTEXTS}

@@ -7,7 +7,7 @@ use Rattle.world.specs.declared.event.End.{End}
 use Rattle.semantics.specs.Core.{ending_of}
 use Rattle.semantics.specs.Events.{Semantics, Config, run}
 use Rattle.semantics.specs.Entries.{event_of, LeadsTo}
-use Rattle.semantics.specs.Moves.{Move, Turn, Pump, entries_of, Round, first_round, RoundsTo}
+use Rattle.semantics.specs.Moves.{Move, Turn, entries_of, Round, first_round, RoundsTo}
 use Rattle.semantics.specs.Openings.{unplugs}
 
 -- a turn by which no port is lost

@@ -8,7 +8,7 @@ use Rattle.world.specs.declared.event.Entry.{Entry}
 use Rattle.world.specs.declared.event.Entry.TheVariants as entry
 use Rattle.world.specs.WorldState.{is_plugged, can_feed}
 use Rattle.semantics.specs.Core.{Core, illegal_of}
-use Rattle.semantics.specs.Events.{Semantics, Config, step, fire}
+use Rattle.semantics.specs.Events.{step, fire}
 use Rattle.semantics.specs.Entries.{LeadsTo}
 use Rattle.semantics.specs.Machine.{machine_semantics}
 use Rattle.semantics.proofs.Histories.{leads_append}

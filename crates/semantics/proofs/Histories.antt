@@ -1,4 +1,4 @@
--- Runs that go on: one entry more at the end of a legal history, and of one in round order.
+-- Runs that go on: one entry more at the end of a legal history.
 use Rattle.std.proofs.Common.{◌≡◌, List, [], ◌∷◌, ◌++◌, map, Option, Some, None, refl, sym, ap, ◌∙◌, subst}
 use Rattle.std.proofs.lemmas.Option.{same_Some}
 use Rattle.world.specs.declared.event.Event.{Event}
@@ -8,7 +8,6 @@ use Rattle.world.specs.declared.event.Illegal.{Illegal}
 use Rattle.semantics.specs.Core.{illegal_of}
 use Rattle.semantics.specs.Events.{Semantics, Config, fire, unless_illegal, step, after_first, run_on, run}
 use Rattle.semantics.specs.Entries.{event_of, entry_seen, LeadsTo}
-use Rattle.semantics.specs.Rounds.{Round, round_after, round_of, KeepsOrder, InRoundOrder}
 
 stepped_by : {X : Type 0} (rules : Semantics X) (m n : Config X) (e : Event) (s : Seen) (o : Option Illegal) → unless_illegal o (fire rules m e) ≡ Some (n, s) → fire rules m e ≡ (n, s)
 stepped_by rules m n e s None h = same_Some _ _ h
@@ -35,20 +34,6 @@ pub leads_more : {X : Type 0} (rules : Semantics X) (m last next : Config X) (es
 leads_more rules m last next [] e s leads goes told = (next, s, ap (λ x. step rules x (event_of e)) leads ∙ goes, told, refl)
 leads_more rules m last next (x ∷ xs) e s leads goes told =
     (leads.0, leads.1, leads.2, leads.3, leads_more rules leads.0 last next xs e s leads.4 goes told)
-
-pub order_more : {X : Type 0} (rules : Semantics X) (m last : Config X) (before : Round) (es : List Entry) (e : Entry) → LeadsTo rules m es last → InRoundOrder rules m before es → KeepsOrder last.core (round_of before es) e → InRoundOrder rules m before (es ++ e ∷ [])
-order_more rules m last before [] e leads order keeps = (subst (λ x. KeepsOrder x.core before e) (sym leads) keeps, tt)
-order_more rules m last before (x ∷ xs) e leads order keeps =
-    let there : leads.0 ≡ (fire rules m (event_of x)).0 =
-    sym (ap (λ p. p.0) (stepped rules m leads.0 (event_of x) leads.1 leads.2))
-    in (
-      order.0,
-      order_more rules ((fire rules m (event_of x)).0) last (round_after before x) xs e (subst (λ y. LeadsTo rules y xs last) there leads.4) order.1 keeps,
-    )
-
-pub round_of-append : (before : Round) (es : List Entry) (e : Entry) → round_of before (es ++ e ∷ []) ≡ round_after (round_of before es) e
-round_of-append before [] e = refl
-round_of-append before (x ∷ xs) e = round_of-append (round_after before x) xs e
 
 -- entries that are legal behind legal ones
 pub leads_append : {X : Type 0} (rules : Semantics X) (m n last : Config X) (xs ys : List Entry) → LeadsTo rules m xs n → LeadsTo rules n ys last → LeadsTo rules m (xs ++ ys) last

@@ -1,5 +1,5 @@
--- How a run begins: the ports that nobody serves are unplugged, in channel order.
-use Rattle.std.specs.Prelude.{ℕ, zero, suc, List, [], ◌∷◌, ◌++◌, length, Bool, ◌&&◌, if◌then◌else◌}
+-- How a run begins: ports that nobody serves are unplugged, in channel order.
+use Rattle.std.specs.Prelude.{ℕ, zero, suc, List, [], ◌∷◌, ◌++◌, length, Bool, if◌then◌else◌}
 use Rattle.world.specs.declared.event.Entry.{Entry}
 use Rattle.world.specs.declared.event.Entry.TheVariants.{Unplugged}
 use Rattle.world.specs.WorldState.{WorldState, is_plugged}
@@ -12,7 +12,3 @@ unplugs_below test (suc n) = unplugs_below test n ++ (if test n then Unplugged n
 -- an unplugging of each plugged channel
 abbrev pub unplugs : WorldState → List Entry
 unplugs w = unplugs_below (is_plugged w) (length w.channels)
-
--- an unplugging of each plugged channel that passes a test
-abbrev pub unplugs_where : (ℕ → Bool) → WorldState → List Entry
-unplugs_where test w = unplugs_below (λ k. is_plugged w k && test k) (length w.channels)
