@@ -1,5 +1,5 @@
 -- The text of a run's report, line by line.
-use Rattle.std.specs.Prelude.{ℕ, ◌==◌, List, [], ◌∷◌, ◌++◌, length, map, filter, sum_by, count_by, not, Option, Some, None, slice_get, slice_index, decimal, codes, if◌then◌else◌}
+use Rattle.std.specs.Prelude.{ℕ, ◌%◌, ◌^◌, ◌==◌, List, [], ◌∷◌, ◌++◌, length, map, filter, sum_by, count_by, not, Option, Some, None, slice_get, slice_index, decimal, codes, if◌then◌else◌}
 use Rattle.std.specs.List.{flat_map}
 use Rattle.micro_isa.specs.declared.program.Channel.{Channel}
 use Rattle.micro_isa.specs.declared.program.Channel.TheVariants.{Inner, Input, Output}
@@ -119,3 +119,19 @@ report_text need image channels entries last =
     ++ file_line last.file
     ++ number_line (codes "steps ") last.view.steps
     ++ end_line last.ending
+
+-- the sum of the words that were put out, modulo 2^32
+abbrev pub sum_out : List Put → ℕ
+sum_out outputs = sum_by (λ o. o.word) outputs % 2 ^ 32
+
+-- what is told of the run of a generated bundle: its number, its need, its image, how many entries and steps the run had,
+-- what it put out, and how it ended
+unfoldable pub soak_summary : ℕ → ℕ → Image → ℕ → ℕ → List Put → Option End → List ℕ
+soak_summary number need image entries steps outputs ending =
+    number_line (codes "soak ") number
+    ++ number_line (codes "need ") need
+    ++ image_lines (Some image)
+    ++ number_line (codes "segments ") entries
+    ++ number_line (codes "steps ") steps
+    ++ number_line (codes "sum ") (sum_out outputs)
+    ++ end_line ending

@@ -1,12 +1,14 @@
-//! The report of a run as text.
+//! What is told of a run as text.
 #![tactic(auto)]
 
 mod image;
 mod lines;
 mod report;
+mod soak;
 mod text;
 
 pub use report::{Outcome, print_report};
+pub use soak::print_soak;
 
 #[cfg(test)]
 mod tests;

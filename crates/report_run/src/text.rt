@@ -40,3 +40,12 @@ pub(crate) fn put_number_line(text: &mut Vec<u8>, word: &[u8], n: u32) -> Result
     put_number(text, n)?;
     put_bytes(text, b"\n")
 }
+
+/// A line of a word and a count.
+pub(crate) fn put_count_line(text: &mut Vec<u8>, word: &[u8], n: usize) -> Result<(), NoMemory>
+    ensures { OnOk result (text.new.items ≡ text.old.items ++ number_line word.now n) }
+{
+    put_bytes(text, word)?;
+    put_count(text, n)?;
+    put_bytes(text, b"\n")
+}
