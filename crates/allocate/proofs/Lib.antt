@@ -1,3 +1,10 @@
 pub mod Zipping
+pub mod Still
+pub mod Existing
 pub mod Once
+pub mod Costing
+pub mod Pricing
 pub mod Rooming
+pub mod Filling
+pub mod Allocating
+pub mod Even

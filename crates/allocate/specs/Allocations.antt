@@ -1,49 +1,51 @@
 -- The allocation of a bundle.
-use Rattle.std.specs.Prelude.{ℕ, ◌≡◌, ◌≤◌, ◌<◌, List, length}
-use Rattle.std.specs.List.{AllZip}
-use Rattle.micro_isa.specs.declared.program.Line.{Line}
-use Rattle.micro_isa.specs.declared.program.Program.{Program}
+use Rattle.std.specs.Prelude.{ℕ, ◌≡◌, ◌≤◌, ◌<◌, List, length, not}
+use Rattle.std.specs.List.{filter, sum_by}
 use Rattle.micro_isa.specs.declared.program.Bundle.{Bundle}
+use Rattle.micro_isa.specs.declared.image.Image.{Image}
 use Rattle.micro_isa.specs.Pieces.{total}
 use Rattle.semantics.specs.Source.{code_of}
 use Rattle.pressure.specs.declared.pressure_of.Pressure.{Pressure}
-use Rattle.pressure.specs.Pressures.{IsPressureOf, need_of}
+use Rattle.pressure.specs.Pressures.{need_of}
 use Rattle.plan.specs.declared.row.Plan.{Plan}
-use Rattle.point_walk.specs.Walks.{IsWalk}
+use Rattle.budget.specs.Fitting.{Fits}
 use Rattle.emitted.specs.Words.{glue_of}
 use Rattle.emitted.specs.Emitted.{plan_at, emitted}
 use Rattle.allocate.specs.declared.allocation.Allocation.{Allocation}
 use Rattle.allocate.specs.declared.allocation.AllocFault.{AllocFault}
 use Rattle.allocate.specs.declared.allocation.AllocFault.TheVariants.{NoFit, NoMemory}
-use Rattle.allocate.specs.Needs.{ArePressures, IsNeed, own_sizes, shared_size}
-
--- the plan of the walk at the pressures of the code
-pub record IsPlanOf (code : List Line) (plan : Plan) : Type 0 where
-  pub pressure : Pressure
-  pub exact : IsPressureOf code pressure
-  pub walked : IsWalk code pressure.private pressure.all plan
-
--- each program has its plan
-abbrev pub ArePlansOf : List Program → List Plan → Type 0
-ArePlansOf = AllZip (λ p plan. IsPlanOf p.code plan)
+use Rattle.allocate.specs.Needs.{ArePressures, IsNeed}
+use Rattle.allocate.specs.Preferred.{AllFitWhole, HaveCells, IsPreferred, demands_by}
 
 -- the glue words of all plans
 abbrev pub glue_of_all : Bundle → List Plan → ℕ
 glue_of_all b plans = total (λ c. glue_of (code_of b c) (plan_at plans c)) (length b.programs)
 
--- this is the allocation of the bundle: what its contexts need fits the file, the budget and the plans are those of the
--- pressures, and the image is the one that they make
+-- how many words of an image are not counted
+abbrev pub uncounted_words : Image → ℕ
+uncounted_words m = sum_by (λ code. length (filter (λ word. not word.counted) code.words)) m.contexts
+
+-- this is the allocation of the bundle: what its contexts need fits the file, the budget is the preferred one, the plans are
+-- those of its sizes, and the image is the one that they make
 pub record IsAllocation (b : Bundle) (a : Allocation) : Type 0 where
   pub parts : List Pressure
   pub pressures : ArePressures b.programs parts
   pub need : a.need ≡ need_of parts
   pub fits : a.need ≤ b.file
-  pub own : a.budget.private ≡ own_sizes parts
-  pub shared : a.budget.shared ≡ shared_size parts
-  pub plans : ArePlansOf b.programs a.plans
+  pub preferred : IsPreferred b parts a.budget
+  pub cells : HaveCells b.programs a.budget.private a.budget.shared a.budget.cost a.plans
   pub glue : a.glue ≡ glue_of_all b a.plans
-  pub cost : a.budget.cost ≡ a.glue
   pub image : a.image ≡ emitted b a.plans a.budget
+
+-- the glue is what the budget costs, and as many words of the image are not counted
+pub record IsEven (a : Allocation) : Type 0 where
+  pub cost : a.glue ≡ a.budget.cost
+  pub words : a.glue ≡ uncounted_words a.image
+
+-- there is no glue where some sizes fit at which the fit over the whole program serves each context
+pub record IsStill (b : Bundle) (a : Allocation) : Type 0 where
+  pub none : (parts : List Pressure) (private : List ℕ) (shared : ℕ) → ArePressures b.programs parts → Fits (demands_by parts) b.file private shared
+      → AllFitWhole b.programs private shared → a.glue ≡ 0
 
 -- a bundle has one allocation at most
 pub record HasOneAllocation (b : Bundle) : Type 0 where

@@ -1,5 +1,5 @@
 -- How many registers a bundle needs.
-use Rattle.std.specs.Prelude.{ℕ, ◌≡◌, ◌-◌, List, map}
+use Rattle.std.specs.Prelude.{ℕ, ◌≡◌, List}
 use Rattle.std.specs.List.{AllZip}
 use Rattle.micro_isa.specs.declared.program.Program.{Program}
 use Rattle.micro_isa.specs.declared.program.Bundle.{Bundle}
@@ -8,7 +8,7 @@ use Rattle.liveness.specs.Lives.{IsLiveOf}
 use Rattle.plan.specs.declared.row.Plan.{Plan}
 use Rattle.plan.specs.ValidPlans.{IsValidPlan}
 use Rattle.pressure.specs.declared.pressure_of.Pressure.{Pressure}
-use Rattle.pressure.specs.Pressures.{IsPressureOf, greatest, need_of}
+use Rattle.pressure.specs.Pressures.{IsPressureOf, need_of}
 
 -- the live registers of each program
 abbrev pub AreLives : List Program → List Live → Type 0
@@ -28,14 +28,6 @@ pub record HasNeed (b : Bundle) (need : ℕ) : Type 0 where
 pub record IsNeed (b : Bundle) (need : ℕ) : Type 0 where
   pub has : HasNeed b need
   pub only : (n : ℕ) → HasNeed b n → n ≡ need
-
--- each context's own registers are as many as its private pressure
-abbrev pub own_sizes : List Pressure → List ℕ
-own_sizes = map (λ part. part.private)
-
--- as many are shared as the context lacks that lacks most
-abbrev pub shared_size : List Pressure → ℕ
-shared_size parts = greatest (map (λ part. part.all - part.private) parts)
 
 -- a valid plan for each program
 abbrev pub AreValid : List Program → List Plan → Type 0

@@ -1,26 +1,32 @@
 //! The allocation of a bundle, where what its contexts need fits its file.
 
-ghost use Rattle.std.specs.Prelude.{◌≡◌, ◌≤◌, IfOk, IfErr};
+ghost use Rattle.std.specs.Prelude.{◌≡◌, ◌<◌, ◌≤◌, IfOk, IfErr, length};
 ghost use Rattle.std.specs.List.{All};
 ghost use Rattle.micro_isa.specs.Formed.{IsFormedBundle};
 ghost use Rattle.pressure.specs.Pressures.{IsPart, need_of};
+ghost use Rattle.budget.specs.Costs.{IsCostTable};
+ghost use Rattle.budget.specs.Best.{IsBest};
 ghost use Rattle.emitted.specs.Emitted.{IsEmitted};
-ghost use Rattle.allocate.specs.Needs.{AreLives, ArePressures, own_sizes, shared_size};
-ghost use Rattle.allocate.specs.Allocations.{IsAllocation, HasOneAllocation, TellsFault};
+ghost use Rattle.allocate.specs.Needs.{AreLives, ArePressures};
+ghost use Rattle.allocate.specs.Preferred.{IsPreferred};
+ghost use Rattle.allocate.specs.Tables.{Refused};
+ghost use Rattle.allocate.specs.Allocations.{IsAllocation, HasOneAllocation, IsEven, IsStill, TellsFault};
 
 use crate::allocation::{AllocFault, Allocation};
 use crate::analysis::{lives_of, pressures_of};
 use crate::planning::{glue_of_all, plans_of};
-use crate::sizing::{own_sizes, shared_size};
-use budget::Budget;
+use crate::sizing::own_total;
+use crate::table::tables_of;
+use budget::{Budget, BudgetFault, CostTable, balance};
 use emit::emit;
 use liveness::Live;
-use micro_isa::{Bundle, List, NoMemory};
+use micro_isa::{Bundle, List, MOST_CONTEXTS, MOST_FILE, NoMemory};
 use pressure::{Pressure, need};
 use std::alloc::Global;
 
-/// The allocation of a bundle. It is refused exactly where its contexts need more registers than
-/// its file has. A bundle has one allocation at most, and its image does what the bundle does.
+/// The allocation of a bundle, with the budget that is preferred. It is refused exactly where its
+/// contexts need more registers than its file has. A bundle has one allocation at most, and its image
+/// does what the bundle does. Its glue is what the budget costs.
 #[tactic(auto, using(crate::proofs::Once::one_allocation))]
 pub fn allocate(alloc: Global, bundle: &Bundle) -> Result<Allocation, AllocFault>
     requires { IsFormedBundle bundle.now }
@@ -28,6 +34,8 @@ pub fn allocate(alloc: Global, bundle: &Bundle) -> Result<Allocation, AllocFault
     ensures emitted { IfOk result (λ a. IsEmitted bundle.now a.plans a.budget a.image) }
     ensures fault { IfErr result (TellsFault bundle.now) }
     ensures once { HasOneAllocation bundle.now }
+    ensures even { IfOk result IsEven }
+    ensures still { IfOk result (IsStill bundle.now) }
 {
     match analysed(alloc, bundle) {
         Ok(analysis) => fit(alloc, bundle, &analysis),
@@ -66,10 +74,7 @@ fn fit(alloc: Global, bundle: &Bundle, analysis: &Analysis) -> Result<Allocation
 {
     let need = need(analysis.parts.as_slice());
     if need <= bundle.file {
-        match fitting(alloc, bundle, analysis, need) {
-            Ok(allocation) => Ok(allocation),
-            Err(NoMemory) => Err(AllocFault::NoMemory),
-        }
+        fitting(alloc, bundle, analysis, need)
     } else {
         Err(AllocFault::NoFit {
             need,
@@ -83,7 +88,7 @@ fn fitting(
     bundle: &Bundle,
     analysis: &Analysis,
     need: u32,
-) -> Result<Allocation, NoMemory>
+) -> Result<Allocation, AllocFault>
     requires formed { IsFormedBundle bundle.now }
     requires lives { AreLives bundle.now.programs analysis.now.lives }
     requires pressures { ArePressures bundle.now.programs analysis.now.parts }
@@ -92,12 +97,75 @@ fn fitting(
     requires fits { need ≤ bundle.now.file }
     ensures allocation { IfOk result (IsAllocation bundle.now) }
     ensures emitted { IfOk result (λ a. IsEmitted bundle.now a.plans a.budget a.image) }
+    ensures fault { IfErr result (TellsFault bundle.now) }
 {
+    let budget = preferred(alloc, bundle, analysis)?;
+    match allocated(alloc, bundle, analysis, need, budget) {
+        Ok(allocation) => Ok(allocation),
+        Err(NoMemory) => Err(AllocFault::NoMemory),
+    }
+}
+
+/// The budget that is preferred, by what registers cost each context.
+fn preferred(alloc: Global, bundle: &Bundle, analysis: &Analysis) -> Result<Budget, AllocFault>
+    requires formed { IsFormedBundle bundle.now }
+    requires lives { AreLives bundle.now.programs analysis.now.lives }
+    requires pressures { ArePressures bundle.now.programs analysis.now.parts }
+    requires parts { All IsPart analysis.now.parts }
+    requires fits { need_of analysis.now.parts ≤ bundle.now.file }
+    ensures preferred { IfOk result (IsPreferred bundle.now analysis.now.parts) }
+    ensures fault { IfErr result (TellsFault bundle.now) }
+{
+    let programs = bundle.programs.as_slice();
     let lives = analysis.lives.as_slice();
     let parts = analysis.parts.as_slice();
-    let plans = plans_of(alloc, bundle.programs.as_slice(), lives, parts)?;
+    let spare = bundle.file - own_total(parts);
+    match tables_of(alloc, programs, lives, parts, spare) {
+        Ok(tables) => balanced(alloc, tables.as_slice(), bundle.file),
+        Err(NoMemory) => Err(AllocFault::NoMemory),
+    }
+}
+
+/// The budget that is preferred for these tables.
+fn balanced(alloc: Global, tables: &[CostTable], file: u32) -> Result<Budget, AllocFault>
+    requires some { 0 < length tables.now }
+    requires few { length tables.now ≤ MOST_CONTEXTS }
+    requires tables { All IsCostTable tables.now }
+    requires file { file ≤ MOST_FILE }
+    ensures best { IfOk result (IsBest tables.now file) }
+    ensures fault { IfErr result (Refused tables.now file) }
+{
+    match balance(alloc, tables, file) {
+        Ok(budget) => Ok(budget),
+        Err(BudgetFault::NoFit { need, file }) => Err(AllocFault::NoFit { need, file }),
+        Err(BudgetFault::NoMemory) => Err(AllocFault::NoMemory),
+    }
+}
+
+/// The plans and the image for the preferred budget.
+fn allocated(
+    alloc: Global,
+    bundle: &Bundle,
+    analysis: &Analysis,
+    need: u32,
+    budget: Budget,
+) -> Result<Allocation, NoMemory>
+    requires formed { IsFormedBundle bundle.now }
+    requires lives { AreLives bundle.now.programs analysis.now.lives }
+    requires pressures { ArePressures bundle.now.programs analysis.now.parts }
+    requires parts { All IsPart analysis.now.parts }
+    requires need { need ≡ need_of analysis.now.parts }
+    requires fits { need ≤ bundle.now.file }
+    requires preferred { IsPreferred bundle.now analysis.now.parts budget }
+    ensures allocation { IfOk result (IsAllocation bundle.now) }
+    ensures emitted { IfOk result (λ a. IsEmitted bundle.now a.plans a.budget a.image) }
+{
+    let programs = bundle.programs.as_slice();
+    let lives = analysis.lives.as_slice();
+    let parts = analysis.parts.as_slice();
+    let sizes = budget.private.as_slice();
+    let plans = plans_of(alloc, programs, lives, parts, sizes, budget.shared)?;
     let glue = glue_of_all(alloc, bundle, lives, plans.as_slice())?;
-    let budget = budget_of(alloc, parts, glue)?;
     let image = emit(alloc, bundle, lives, plans.as_slice(), &budget)?;
     Ok(Allocation {
         image,
@@ -105,17 +173,5 @@ fn fitting(
         plans,
         glue,
         need,
-    })
-}
-
-fn budget_of(alloc: Global, parts: &[Pressure], glue: u32) -> Result<Budget, NoMemory>
-    requires { All IsPart parts.now }
-    ensures { IfOk result (λ budget. budget ≡ record { private = own_sizes parts.now; shared = shared_size parts.now; cost = glue }) }
-{
-    let private = own_sizes(alloc, parts)?;
-    Ok(Budget {
-        private,
-        shared: shared_size(parts),
-        cost: glue,
     })
 }

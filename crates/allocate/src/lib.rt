@@ -4,9 +4,13 @@
 
 mod allocation;
 mod analysis;
+mod cell;
 mod fit;
+mod fits;
 mod planning;
+mod row_costs;
 mod sizing;
+mod table;
 
 pub use allocation::{AllocFault, Allocation};
 pub use fit::allocate;

@@ -1,46 +1,52 @@
 //! The plan of each program, and the glue of all.
 
-ghost use Rattle.std.specs.Prelude.{◌≡◌, ◌*◌, ◌<◌, ◌≤◌, ◌++◌, ◌∷◌, [], IfOk, OnOk, length};
+ghost use Rattle.std.specs.Prelude.{ℕ, ◌≡◌, ◌+◌, ◌*◌, ◌<◌, ◌≤◌, ◌++◌, ◌∷◌, [], IfOk, OnOk, length};
 ghost use Rattle.std.specs.List.{All};
 ghost use Rattle.micro_isa.specs.Formed.{IsFormedBundle};
 ghost use Rattle.flow_graph.specs.Paths.{IsClosedCode};
 ghost use Rattle.liveness.specs.Lives.{IsLiveOf};
-ghost use Rattle.pressure.specs.Pressures.{IsPart, IsPressureOf, need_of};
+ghost use Rattle.pressure.specs.Pressures.{IsPart, IsPressureOf};
 ghost use Rattle.plan.specs.ValidPlans.{IsValidPlan};
 ghost use Rattle.semantics.specs.Source.{code_of};
+ghost use Rattle.budget.specs.Costs.{clipped};
+ghost use Rattle.budget.specs.Fitting.{Fits};
 ghost use Rattle.emitted.specs.Words.{glue_of};
 ghost use Rattle.emitted.specs.Emitted.{plan_at};
 ghost use Rattle.allocate.specs.Needs.{AreLives, ArePressures, AreValid};
-ghost use Rattle.allocate.specs.Items.{AreClosed, IsItem};
-ghost use Rattle.allocate.specs.Allocations.{IsPlanOf, ArePlansOf, glue_of_all};
+ghost use Rattle.allocate.specs.Items.{AreClosed};
+ghost use Rattle.allocate.specs.Cells.{IsCellOf};
+ghost use Rattle.allocate.specs.Preferred.{demands_by};
+ghost use Rattle.allocate.specs.Tables.{AreChosen, IsChosenAt};
+ghost use Rattle.allocate.specs.Allocations.{glue_of_all};
 
+use crate::cell::{Planned, cell};
+use budget::SIZES;
 use emit::glue;
 use liveness::Live;
-use micro_isa::{Bundle, List, NoMemory, Program};
+use micro_isa::{Bundle, List, MOST_FILE, NoMemory, Program};
 use plan::Plan;
-use point_walk::walk;
 use pressure::Pressure;
 use std::alloc::Global;
 
-/// The plan of each program: that of the walk at its pressures.
-#[tactic(auto, using(crate::proofs::Zipping::cover_push, crate::proofs::Zipping::cover_all))]
+/// The plan of each program for its own size beside the shared registers.
 pub(crate) fn plans_of(
     alloc: Global,
     programs: &[Program],
     lives: &[Live],
     parts: &[Pressure],
+    sizes: &[u32],
+    shared: u32,
 ) -> Result<List<Plan>, NoMemory>
     requires closed { AreClosed programs.now }
     requires lives { AreLives programs.now lives.now }
     requires parts { ArePressures programs.now parts.now }
     requires ordered { All IsPart parts.now }
-    requires small { need_of parts.now ≤ 128 }
-    ensures plans { IfOk result (λ plans. ArePlansOf programs.now plans) }
-    ensures valid { IfOk result (λ plans. AreValid programs.now plans) }
+    requires fits { Fits (demands_by parts.now) MOST_FILE sizes.now shared }
+    ensures { IfOk result (AreChosen programs.now sizes.now shared (length programs.now)) }
 {
     let mut plans = List::new(alloc);
     for c in 0..programs.len() {
-        let plan = planned(alloc, programs, lives, parts, c)?;
+        let plan = planned(alloc, programs, lives, parts, sizes, shared, c)?;
         push_plan(&mut plans, plan)?;
     }
     Ok(plans)
@@ -51,30 +57,53 @@ fn planned(
     programs: &[Program],
     lives: &[Live],
     parts: &[Pressure],
+    sizes: &[u32],
+    shared: u32,
     c: usize,
 ) -> Result<Plan, NoMemory>
     requires closed { AreClosed programs.now }
     requires lives { AreLives programs.now lives.now }
     requires parts { ArePressures programs.now parts.now }
     requires ordered { All IsPart parts.now }
-    requires small { need_of parts.now ≤ 128 }
+    requires fits { Fits (demands_by parts.now) MOST_FILE sizes.now shared }
     requires within { c < length programs.now }
-    ensures plan { IfOk result (λ plan. IsItem IsPlanOf programs.now c plan) }
-    ensures valid { IfOk result (λ plan. IsItem IsValidPlan programs.now c plan) }
+    ensures { IfOk result (IsChosenAt programs.now sizes.now shared c) }
 {
-    plan_of(alloc, &programs[c], &lives[c], parts[c])
+    plan_of(alloc, &programs[c], &lives[c], parts[c], sizes[c], shared)
 }
 
-fn plan_of(alloc: Global, program: &Program, live: &Live, part: Pressure) -> Result<Plan, NoMemory>
+/// The plan of a program with these pressures for its own size beside the shared registers.
+fn plan_of(
+    alloc: Global,
+    program: &Program,
+    live: &Live,
+    part: Pressure,
+    size: u32,
+    shared: u32,
+) -> Result<Plan, NoMemory>
     requires closed { IsClosedCode program.now.code }
     requires live { IsLiveOf program.now.code live.now }
     requires part { IsPressureOf program.now.code part }
     requires ordered { part.private ≤ part.all }
-    requires small { part.all ≤ 128 }
-    ensures plan { IfOk result (λ plan. IsPlanOf program.now.code plan) }
+    requires own { part.private ≤ size }
+    requires whole { part.all ≤ size + shared }
+    requires small { size + shared ≤ MOST_FILE }
+    ensures chosen { IfOk result (λ plan. (cost : ℕ) × IsCellOf program.now.code size shared cost plan) }
     ensures valid { IfOk result (λ plan. IsValidPlan program.now.code plan) }
 {
-    walk(alloc, program, live, part.private, part.all)
+    let p = places(part.private, size);
+    let r = places(part.all, size + shared);
+    let Planned { plan, .. } = cell(alloc, program, live, p, r)?;
+    Ok(plan)
+}
+
+/// The places that are used of `size`: at most seven more than are needed.
+fn places(least: u32, size: u32) -> u32
+    requires order { least ≤ size }
+    ensures value { result ≡ least + clipped size least }
+    ensures few { result ≤ size }
+{
+    least + (SIZES - 1).min(size - least)
 }
 
 fn push_plan(plans: &mut List<Plan>, plan: Plan) -> Result<(), NoMemory>

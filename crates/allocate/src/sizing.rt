@@ -1,42 +1,19 @@
-//! The sizes of the budget.
+//! How many registers the contexts need of their own.
 
-ghost use Rattle.std.specs.Prelude.{◌≡◌, ◌++◌, ◌∷◌, [], IfOk, OnOk};
-ghost use Rattle.std.specs.List.{All};
-ghost use Rattle.pressure.specs.Pressures.{IsPart};
-ghost use Rattle.allocate.specs.Needs.{own_sizes, shared_size};
+ghost use Rattle.std.specs.Prelude.{◌≡◌, ◌≤◌};
+ghost use Rattle.std.specs.List.{sum_by};
 
-use micro_isa::{List, NoMemory};
+use micro_isa::MOST_FILE;
 use pressure::Pressure;
-use std::alloc::Global;
 
-/// How many registers each context has of its own.
-pub(crate) fn own_sizes(alloc: Global, parts: &[Pressure]) -> Result<List<u32>, NoMemory>
-    ensures { IfOk result (λ sizes. sizes ≡ own_sizes parts.now) }
+/// How many registers all contexts need of their own.
+pub(crate) fn own_total(parts: &[Pressure]) -> u32
+    requires { sum_by (λ part. part.private) parts.now ≤ MOST_FILE }
+    ensures { result ≡ sum_by (λ part. part.private) parts.now }
 {
-    let mut sizes = List::new(alloc);
+    let mut total = 0;
     for part in parts {
-        push_size(&mut sizes, part.private)?;
+        total += part.private;
     }
-    Ok(sizes)
-}
-
-fn push_size(sizes: &mut List<u32>, size: u32) -> Result<(), NoMemory>
-    ensures { OnOk result (sizes.new ≡ sizes.old ++ size ∷ []) }
-{
-    if sizes.push(size).is_err() {
-        return Err(NoMemory);
-    }
-    Ok(())
-}
-
-/// How many registers the contexts share.
-pub(crate) fn shared_size(parts: &[Pressure]) -> u32
-    requires { All IsPart parts.now }
-    ensures { result ≡ shared_size parts.now }
-{
-    let mut shared = 0;
-    for part in parts {
-        shared = shared.max(part.all - part.private);
-    }
-    shared
+    total
 }

@@ -2,3 +2,4 @@ pub mod Tables
 pub mod Addressed
 pub mod Blocks
 pub mod Layouts
+pub mod Sized

@@ -17,7 +17,7 @@ use smallvec::SmallVec;
 use std::alloc::Global;
 
 /// Whether some register is not yet where the next row has it.
-fn moves_some(after: &Places, next: &[Place]) -> bool
+pub(crate) fn moves_some(after: &Places, next: &[Place]) -> bool
     ensures { result ≡ false → moving (pairs_from (λ k. slice_index after.now k) next.now) ≡ [] }
 {
     for listed in next {
@@ -29,7 +29,11 @@ fn moves_some(after: &Places, next: &[Place]) -> bool
 }
 
 /// From where each register is after an instruction to where the next row has it.
-fn pairs_of(alloc: Global, after: &Places, next: &[Place]) -> Result<Vec<(PReg, PReg)>, NoMemory>
+pub(crate) fn pairs_of(
+    alloc: Global,
+    after: &Places,
+    next: &[Place],
+) -> Result<Vec<(PReg, PReg)>, NoMemory>
     ensures { IfOk result (λ pairs. pairs.items ≡ pairs_from (λ k. slice_index after.now k) next.now) }
 {
     let mut pairs = Vec::new(alloc);
@@ -63,7 +67,7 @@ fn mark(named: &mut [bool; 256], place: u8)
 
 /// The least place that no pair names.
 #[tactic(auto, using(crate::proofs::Edging::free_more))]
-fn free_place(pairs: &[(PReg, PReg)], places: u8) -> Option<PReg>
+pub(crate) fn free_place(pairs: &[(PReg, PReg)], places: u8) -> Option<PReg>
     ensures { result ≡ free_from pairs.now places 0 }
 {
     let named = named_places(pairs);

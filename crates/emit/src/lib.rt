@@ -2,7 +2,9 @@
 #![tactic(auto)]
 
 mod after;
+mod by_size;
 mod counted;
+mod edge_costs;
 mod edges;
 mod image;
 mod layout;
@@ -11,5 +13,6 @@ mod sizes;
 mod starts;
 mod words;
 
+pub use by_size::glues;
 pub use image::emit;
 pub use sizes::glue;

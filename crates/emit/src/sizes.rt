@@ -74,7 +74,7 @@ pub(crate) fn glue_at(
 }
 
 /// So many steps, and a jump where there are any.
-fn with_jump(steps: u32) -> u32
+pub(crate) fn with_jump(steps: u32) -> u32
     requires { steps ≤ 381 }
     ensures { result ≡ size_of_block steps }
 {

@@ -9,5 +9,5 @@ mod rows;
 mod whole;
 
 pub use fit::Fit;
-pub use region::{by_region, region_fits};
+pub use region::{all_fit, by_region, region_fits, region_plan};
 pub use whole::{first_fit, whole_fit};

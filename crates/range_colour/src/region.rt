@@ -1,4 +1,4 @@
-ghost use Rattle.std.specs.Prelude.{ℕ, [], ◌∷◌, ◌++◌, ◌≡◌, ◌<◌, ◌≤◌, length, slice_index, slice_index_or, slice_set, IfOk, IfSome, Option, OnOk, vec_len};
+ghost use Rattle.std.specs.Prelude.{ℕ, [], ◌∷◌, ◌++◌, ◌≡◌, ◌<◌, ◌≤◌, length, slice_index, slice_index_or, slice_set, IfOk, IfSome, Option, Some, true, OnOk, vec_len};
 ghost use Rattle.std.specs.List.{All};
 ghost use Rattle.flow_graph.specs.Paths.{IsClosedCode};
 ghost use Rattle.liveness.specs.Lives.{IsLiveOf};
@@ -42,8 +42,8 @@ pub fn by_region(
     region_plan(alloc, code, live, regions, fits.as_slice(), p, r)
 }
 
-/// The plan by these fits of the regions.
-fn region_plan(
+/// The plan by these fits of the regions. Its rows serve all sizes in which they fit.
+pub fn region_plan(
     alloc: Global,
     code: &[Line],
     live: &Live,
@@ -61,6 +61,8 @@ fn region_plan(
     ensures fit { IfOk result (IsRegionFit code.now p r) }
     ensures valid { IfOk result (λ found. IfSome found (IsValidPlan code.now)) }
     ensures still { IfOk result (λ found. IfSome found (λ plan. (i j : ℕ) → Joined code.now i j → MovesNothing code.now plan i j)) }
+    ensures serves { IfOk result (λ found. IfSome found (λ plan. (m n : ℕ) → m ≤ n → n ≤ MOST_FILE → DoFit fits.now m n true
+        → IsRegionFit code.now m n (Some (record { p = m; r = n; rows = plan.rows })))) }
 {
     if !all_fit(fits, p, r) {
         return Ok(None);
@@ -150,8 +152,8 @@ fn append_to(groups: &mut Vec<List<u32>>, g: u32, i: u32) -> Result<(), NoMemory
     groups[g as usize].push(i).or(Err(NoMemory))
 }
 
-/// Whether all fit.
-fn all_fit(fits: &[Fit], p: u32, r: u32) -> bool
+/// Whether all fit in `p` places for crossing registers and `r` for the others.
+pub fn all_fit(fits: &[Fit], p: u32, r: u32) -> bool
     ensures { DoFit fits.now p r result }
 {
     'fits: for fit in fits {

@@ -1,14 +1,15 @@
-use Rattle.std.proofs.Common.{get_or, arith}
-use Rattle.std.proofs.lemmas.Result.{IfOk-weaker}
+use Rattle.std.proofs.Common.{ℕ, ◌≤◌, get_or, arith}
+use Rattle.std.specs.Prelude.{IfOk, Result, Ok, Err, slice_index}
 use Rattle.std.proofs.lemmas.Option.{slice_get-get_or}
 use Rattle.liveness.specs.Lives.{IsLiveOf}
 use Rattle.pressure.specs.declared.pressure_of.Pressure.{Pressure}
 use Rattle.pressure.specs.Pressures.{IsPressureOf}
+use Rattle.plan.specs.declared.row.Plan.{Plan}
 use Rattle.plan.specs.ValidPlans.{IsValidPlan}
-use Rattle.allocate.specs.Items.{IsItem}
-use Rattle.allocate.specs.Allocations.{IsPlanOf}
-use Rattle.allocate.proofs.Zipping.{item_closed, item_is, item_zip, zip_at, got, long}
-use Rattle.allocate.proofs.Rooming.{most_part}
+use Rattle.allocate.specs.Cells.{IsCellOf}
+use Rattle.allocate.specs.Tables.{IsChosenAt}
+use Rattle.allocate.proofs.Zipping.{item_closed, item_zip, zip_at, got, long}
+use Rattle.allocate.proofs.Rooming.{chosen_at, is_given, long_sizes}
 use Rattle.allocate.proofs.planning.planned.Goals as goal
 
 pub bounds-lives-c : goal.bounds-lives-c
@@ -30,23 +31,29 @@ plan_of-requires-clause-part c =
     (got c.args.programs.now c.args.c c.index-programs-c.result c.requires.within c.index-programs-c.is)
     (slice_get-get_or c.args.parts.now c.args.c none (long IsPressureOf c.args.programs.now c.args.parts.now c.args.c c.requires.parts c.requires.within))
 
-pub returns-clause-plan : goal.returns-clause-plan
-returns-clause-plan c = IfOk-weaker c.plan_of.result (IsPlanOf c.index-programs-c.result.code) (IsItem IsPlanOf c.args.programs.now c.args.c)
-    (λ plan is. item_is IsPlanOf c.args.programs.now c.args.c c.index-programs-c.result plan c.requires.within c.index-programs-c.is is) c.plan_of.ensures.plan
-
-pub returns-clause-valid : goal.returns-clause-valid
-returns-clause-valid c = IfOk-weaker c.plan_of.result (IsValidPlan c.index-programs-c.result.code) (IsItem IsValidPlan c.args.programs.now c.args.c)
-    (λ plan is. item_is IsValidPlan c.args.programs.now c.args.c c.index-programs-c.result plan c.requires.within c.index-programs-c.is is) c.plan_of.ensures.valid
-
-pub plan_of-requires-clause-ordered : goal.plan_of-requires-clause-ordered
-plan_of-requires-clause-ordered c =
-    let none : Pressure = record { private = 0; all = 0 } in
-    (c.requires.ordered c.args.c none (long IsPressureOf c.args.programs.now c.args.parts.now c.args.c c.requires.parts c.requires.within)).order
-
-pub plan_of-requires-clause-small : goal.plan_of-requires-clause-small
-plan_of-requires-clause-small c =
-    let none : Pressure = record { private = 0; all = 0 } in
+pub bounds-sizes-c : goal.bounds-sizes-c
+bounds-sizes-c c =
+    let same = long_sizes c.args.parts.now 128 c.args.sizes.now c.args.shared c.requires.fits in
     let lt = long IsPressureOf c.args.programs.now c.args.parts.now c.args.c c.requires.parts c.requires.within in
-    let most = most_part c.args.parts.now c.args.c none lt c.requires.ordered in
-    let small = c.requires.small in
     omega arith
+
+pub plan_of-requires-clause-own : goal.plan_of-requires-clause-own
+plan_of-requires-clause-own c =
+    let none : Pressure = record { private = 0; all = 0 } in
+    (is_given c.args.parts.now 128 c.args.sizes.now c.args.shared c.args.c none c.requires.fits (long IsPressureOf c.args.programs.now c.args.parts.now c.args.c c.requires.parts c.requires.within)).own
+
+pub plan_of-requires-clause-whole : goal.plan_of-requires-clause-whole
+plan_of-requires-clause-whole c =
+    let none : Pressure = record { private = 0; all = 0 } in
+    (is_given c.args.parts.now 128 c.args.sizes.now c.args.shared c.args.c none c.requires.fits (long IsPressureOf c.args.programs.now c.args.parts.now c.args.c c.requires.parts c.requires.within)).whole
+
+both_ok : {E : Type 0} (P Q R : Plan → Type 0) → ((plan : Plan) → P plan → Q plan → R plan) → (r : Result Plan E) → IfOk r P → IfOk r Q → IfOk r R
+both_ok P Q R on (Ok plan) p q = on plan p q
+both_ok P Q R on (Err e) p q = tt
+
+pub returns : goal.returns
+returns c =
+    let program = c.index-programs-c.result in
+    both_ok (λ plan. (cost : ℕ) × IsCellOf program.code (slice_index c.args.sizes.now c.args.c) c.args.shared cost plan) (IsValidPlan program.code) (IsChosenAt c.args.programs.now c.args.sizes.now c.args.shared c.args.c)
+    (λ plan cell valid. chosen_at c.args.programs.now c.args.sizes.now c.args.shared c.args.c program plan c.requires.within c.index-programs-c.is cell valid)
+    c.plan_of.result c.plan_of.ensures.chosen c.plan_of.ensures.valid

@@ -33,3 +33,7 @@ returns-clause-still c =
     let test = subst (DoFit c.args.fits.now c.args.p c.args.r) c.if-not-all_fit.false c.all_fit.ensures in
     region_still c.args.code.now c.args.regions.now c.requires.regions c.args.fits.now c.requires.fits c.args.p c.args.r c.requires.order c.requires.few test
     c.in_ok-rows.rows c.requires.closed.closed c.in_ok-rows.ensures
+
+pub returns-clause-serves : goal.returns-clause-serves
+returns-clause-serves c m n order few test =
+    region_some c.args.code.now c.args.regions.now c.requires.regions c.args.fits.now c.requires.fits m n order few test c.in_ok-rows.rows c.in_ok-rows.ensures

@@ -1,0 +1,129 @@
+-- What cells cost, by the costs of fits and of the walk.
+use Rattle.std.proofs.Common.{◌≡◌, ℕ, zero, suc, ◌+◌, ◌*◌, ◌<◌, ◌≤◌, ◌⊎◌, min, nat_le, Bool, true, false, List, [], ◌∷◌, ◌++◌, Option, Some, None, length, length-append, refl, sym, ap, subst, ◌∙◌, arith, inl, inr}
+use Rattle.std.specs.Prelude.{if◌then◌else◌, slice_get, slice_index}
+use Rattle.std.proofs.lemmas.Bool.{cases_lt}
+use Rattle.std.proofs.lemmas.Bool.Decides.{nat_tests}
+use Rattle.micro_isa.specs.declared.limits.TheConstants.{MOST_FILE}
+use Rattle.micro_isa.specs.declared.program.Line.{Line}
+use Rattle.flow_graph.specs.Paths.{IsClosedCode}
+use Rattle.pressure.specs.declared.region.Regions.{Regions}
+use Rattle.pressure.specs.Regions.{AreRegionsOf}
+use Rattle.plan.specs.declared.row.Plan.{Plan}
+use Rattle.range_colour.specs.declared.fit.Fit.{Fit}
+use Rattle.range_colour.specs.PlacedPlans.{DoesNotFit, IsWholeFit, IsRegionFit}
+use Rattle.range_colour.specs.Regional.{AreFits, DoFit, fits_test}
+use Rattle.range_colour.proofs.Grouping.{region_none}
+use Rattle.range_colour.proofs.Unique.{region_once}
+use Rattle.point_walk.specs.Walks.{IsWalk}
+use Rattle.point_walk.proofs.Once.{walk_once}
+use Rattle.emitted.specs.Words.{glue_of}
+use Rattle.emit.specs.Sized.{with_places}
+use Rattle.allocate.specs.declared.cell.Planned.{Planned}
+use Rattle.allocate.specs.declared.fits.Fits.{Fits}
+use Rattle.allocate.specs.Cells.{IsCell}
+use Rattle.allocate.specs.Fits.{AreFitsOf, AreRegionCosts, TellsRegions, TellsWhole}
+use Rattle.allocate.specs.Tables.{Costs, IsFitCost, IsFitted, IsRegionCost, IsWalkCost, lesser_cost}
+use Rattle.allocate.proofs.Still.{whole_no_glue}
+
+module _ (code : List Line) (p r : ℕ) where
+  -- the fit over each region costs no more than the walk
+  pub region_cell : (cost other : ℕ) (plan walked : Plan) → IsWholeFit code p r None → IsRegionFit code p r (Some plan) → cost ≡ glue_of code plan
+      → IsWalk code p r walked → other ≡ glue_of code walked → cost ≤ other → IsCell code p r cost plan
+  region_cell cost other plan walked out fit glue walk walk_glue le = inr (inl (record {
+    out = out;
+    fit = fit;
+    glue = glue;
+    least = λ x is. let same = ap (glue_of code) (walk_once code p r x walked is walk) in omega arith;
+  }))
+
+  -- the walk costs less
+  pub walk_cell : (cost other : ℕ) (plan walked : Plan) → IsWholeFit code p r None → IsRegionFit code p r (Some plan) → cost ≡ glue_of code plan
+      → IsWalk code p r walked → other ≡ glue_of code walked → other < cost → IsCell code p r other walked
+  walk_cell cost other plan walked out fit glue walk walk_glue less = inr (inr (record {
+    out = out;
+    walk = walk;
+    glue = walk_glue;
+    least = λ x is. let same = ap (glue_of code) (some_same x plan (region_once code p r (Some x) (Some plan) is fit)) in omega arith;
+  }))
+    where
+      some_same : (x y : Plan) → Some x ≡ Some y → x ≡ y
+      some_same x y e = cc
+
+  -- the fit over some region runs out
+  pub lone_cell : (other : ℕ) (walked : Plan) → IsWholeFit code p r None → IsRegionFit code p r None → IsWalk code p r walked → other ≡ glue_of code walked → IsCell code p r other walked
+  lone_cell other walked out none walk walk_glue = inr (inr (record {
+    out = out;
+    walk = walk;
+    glue = walk_glue;
+    least = λ x is. absurd (let e = region_once code p r (Some x) None is none in cc);
+  }))
+
+  -- a plan by the fits that costs nothing
+  pub free_cell : IsFitCost code p r (Some 0) → Costs code p r 0
+  free_cell (inl whole) = (whole.0, inl (record { fit = whole.1; free = refl }))
+  free_cell (inr region) = (region.1.0, inr (inl (record { out = region.0; fit = region.1.1; glue = region.1.2; least = λ x is. let none = region.1.2 in omega arith })))
+
+  pub lesser_cell : (found : Option ℕ) (walked : ℕ) → IsFitCost code p r found → IsWalkCost code p r walked → Costs code p r (lesser_cost found walked)
+  lesser_cell None walked fit walk = (walk.0, lone_cell walked walk.0 fit.0 fit.1 walk.1 walk.2)
+  lesser_cell (Some cost) walked (inl whole) walk =
+      let none = whole.2 in
+      let free : min cost walked ≡ 0 = omega arith in
+      (whole.0, inl (record { fit = whole.1; free = free }))
+  lesser_cell (Some cost) walked (inr region) walk = elim (cases_lt walked cost) [
+    | inl less ↦
+        let is : walked ≡ min cost walked = omega arith in
+        (walk.0, subst (λ n. IsCell code p r n walk.0) is (walk_cell cost walked region.1.0 walk.0 region.0 region.1.1 region.1.2 walk.1 walk.2 less))
+    | inr more ↦
+        let is : cost ≡ min cost walked = omega arith in
+        (region.1.0, subst (λ n. IsCell code p r n region.1.0) is (region_cell cost walked region.1.0 walk.0 region.0 region.1.1 region.1.2 walk.1 walk.2 (omega arith)))
+  ]
+
+  -- the same with plans
+  pub lesser_planned : (fitted walked : Planned) → IsWholeFit code p r None → IsRegionFit code p r (Some fitted.plan) → fitted.cost ≡ glue_of code fitted.plan
+      → IsWalk code p r walked.plan → walked.cost ≡ glue_of code walked.plan
+      → IsCell code p r (if nat_le fitted.cost walked.cost then fitted else walked).cost (if nat_le fitted.cost walked.cost then fitted else walked).plan
+  lesser_planned fitted walked out fit glue walk walk_glue = by (nat_le fitted.cost walked.cost) refl
+    where
+      by : (b : Bool) → nat_le fitted.cost walked.cost ≡ b → IsCell code p r (if b then fitted else walked).cost (if b then fitted else walked).plan
+      by true e = region_cell fitted.cost walked.cost fitted.plan walked.plan out fit glue walk walk_glue (grind (arith, nat_tests))
+      by false e = walk_cell fitted.cost walked.cost fitted.plan walked.plan out fit glue walk walk_glue (grind (arith, nat_tests))
+
+-- a cell costs its plan's glue
+pub cell_glue : (code : List Line) (p r cost : ℕ) (plan : Plan) → IsClosedCode code → IsCell code p r cost plan → cost ≡ glue_of code plan
+cell_glue code p r cost plan closed (inl one) = one.free ∙ sym (whole_no_glue code p r plan closed one.fit)
+cell_glue code p r cost plan closed (inr (inl one)) = one.glue
+cell_glue code p r cost plan closed (inr (inr one)) = one.glue
+
+-- what runs out of more places runs out of fewer
+pub region_out : (code : List Line) (p r m n : ℕ) → p ≤ m → r ≤ n → IsRegionFit code m n None → IsRegionFit code p r None
+region_out code p r m n le_p le_r none =
+    let out = none.2 in (
+      none.0,
+      none.1,
+      (
+        out.0,
+        out.1,
+        (
+          out.2.0,
+          out.2.1,
+          elim out.2.2 [
+            | inl cross ↦ inl (cross.0, let high = cross.1 in omega arith)
+            | inr other ↦ inr (other.0, let high = other.1 in omega arith)
+          ],
+        ),
+      ),
+    )
+
+-- where the fit over the whole program runs out, what the fits over the regions cost
+pub fit_cost_is : (code : List Line) (p r : ℕ) (found : Option ℕ) → IsWholeFit code p r None → IsRegionCost code p r found → IsFitCost code p r found
+fit_cost_is code p r None out region = (out, region)
+fit_cost_is code p r (Some cost) out region = inr (out, region)
+
+-- one plan by the fits over the regions tells what they cost, whatever the number of places
+pub region_costs_are : (code : List Line) (regions : Regions) (are : AreRegionsOf code regions) (fits : List Fit) (are_fits : AreFits code regions fits) (from : ℕ) (plan : Plan) (costs : List ℕ)
+    → ((m n : ℕ) → m ≤ n → n ≤ 128 → DoFit fits m n true → IsRegionFit code m n (Some (record { p = m; r = n; rows = plan.rows })))
+    → ((j : ℕ) → j < 8 → slice_index costs j ≡ glue_of code (with_places plan (from + j))) → AreRegionCosts code from fits (Some costs)
+region_costs_are code regions are fits are_fits from plan costs serves numbers j p less order few = (
+  λ out. region_none code regions are fits are_fits p (from + j) out,
+  λ test. (record { p = p; r = from + j; rows = plan.rows }, serves p (from + j) order few test, numbers j less),
+)

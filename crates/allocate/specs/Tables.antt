@@ -1,0 +1,93 @@
+-- What is known while cells are computed.
+use Rattle.std.specs.Prelude.{ℕ, ◌≡◌, ◌+◌, ◌*◌, ◌<◌, ◌≤◌, ◌⊎◌, List, Option, Some, None, length, min, slice_get, slice_index}
+use Rattle.micro_isa.specs.declared.program.Line.{Line}
+use Rattle.micro_isa.specs.declared.program.Program.{Program}
+use Rattle.pressure.specs.declared.pressure_of.Pressure.{Pressure}
+use Rattle.pressure.specs.Pressures.{IsPressureOf}
+use Rattle.plan.specs.declared.row.Plan.{Plan}
+use Rattle.plan.specs.ValidPlans.{IsValidPlan}
+use Rattle.range_colour.specs.PlacedPlans.{IsWholeFit, IsRegionFit}
+use Rattle.point_walk.specs.Walks.{IsWalk}
+use Rattle.budget.specs.declared.CostTable.{CostTable}
+use Rattle.budget.specs.declared.TheConstants.{SIZES, MOST_COST}
+use Rattle.budget.specs.Costs.{IsCostTable, demands_of}
+use Rattle.budget.specs.Fitting.{need_of}
+use Rattle.emitted.specs.Words.{glue_of}
+use Rattle.allocate.specs.declared.cell.Planned.{Planned}
+use Rattle.allocate.specs.declared.allocation.AllocFault.{AllocFault}
+use Rattle.allocate.specs.declared.allocation.AllocFault.TheVariants.{NoFit, NoMemory}
+use Rattle.allocate.specs.Cells.{IsCell, IsCellOf}
+
+-- some plan costs so much with these numbers of places
+abbrev pub Costs : List Line → ℕ → ℕ → ℕ → Type 0
+Costs code p r cost = (plan : Plan) × IsCell code p r cost plan
+
+-- the fit over each region, with its glue, where it has a plan
+abbrev pub IsFitted : List Line → ℕ → ℕ → Option Planned → Type 0
+IsFitted code p r None = IsRegionFit code p r None
+IsFitted code p r (Some found) = IsRegionFit code p r (Some found.plan) × (found.cost ≡ glue_of code found.plan) × IsValidPlan code found.plan
+
+-- what the fit over each region costs, where it has a plan
+abbrev pub IsRegionCost : List Line → ℕ → ℕ → Option ℕ → Type 0
+IsRegionCost code p r None = IsRegionFit code p r None
+IsRegionCost code p r (Some cost) = (plan : Plan) × IsRegionFit code p r (Some plan) × (cost ≡ glue_of code plan)
+
+-- what a plan by fits costs, where there is one
+abbrev pub IsFitCost : List Line → ℕ → ℕ → Option ℕ → Type 0
+IsFitCost code p r None = IsWholeFit code p r None × IsRegionFit code p r None
+IsFitCost code p r (Some cost) =
+    ((plan : Plan) × IsWholeFit code p r (Some plan) × (cost ≡ 0))
+    ⊎ (IsWholeFit code p r None × IsRegionCost code p r (Some cost))
+
+-- the lesser of what a plan by fits costs, if there is one, and what the walk costs
+abbrev pub lesser_cost : Option ℕ → ℕ → ℕ
+lesser_cost None walked = walked
+lesser_cost (Some cost) walked = min cost walked
+
+-- the walk costs so much
+abbrev pub IsWalkCost : List Line → ℕ → ℕ → ℕ → Type 0
+IsWalkCost code p r cost = (plan : Plan) × IsWalk code p r plan × (cost ≡ glue_of code plan)
+
+-- what the walk costs with p private places and from + j in all, for each j
+abbrev pub AreWalkCosts : List Line → ℕ → ℕ → List ℕ → Type 0
+AreWalkCosts code p from costs = (j : ℕ) → j < SIZES → IsWalkCost code p (from + j) (slice_index costs j)
+
+-- what cells cost with p private places and part.all + j in all, as far as there are so many
+abbrev pub AreRowCosts : List Line → Pressure → ℕ → ℕ → List ℕ → Type 0
+AreRowCosts code part p most costs = (j : ℕ) → j < SIZES → p ≤ part.all + j → part.all + j ≤ most → Costs code p (part.all + j) (slice_index costs j)
+
+-- no cost is too great for a table
+abbrev pub AreSmall : List ℕ → Type 0
+AreSmall costs = (j : ℕ) → slice_index costs j ≤ MOST_COST
+
+-- the table of a context has the costs of all cells at which a budget can look that leaves so many registers to spare
+pub record IsTabled (spare : ℕ) (code : List Line) (table : CostTable) : Type 0 where
+  pub pressure : Pressure
+  pub exact : IsPressureOf code pressure
+  pub private : table.private ≡ pressure.private
+  pub all : table.all ≡ pressure.all
+  pub is : IsCostTable table
+  pub cells : (i j : ℕ) → i < SIZES → j < SIZES → pressure.private + i ≤ pressure.all + j → pressure.all + j ≤ pressure.private + spare
+      → Costs code (pressure.private + i) (pressure.all + j) (slice_index table.cells (i * SIZES + j))
+
+-- the first rows of cells, of eight costs each
+pub record AreRows (code : List Line) (part : Pressure) (most n : ℕ) (cells : List ℕ) : Type 0 where
+  pub long : length cells ≡ n * SIZES
+  pub small : AreSmall cells
+  pub rows : (i j : ℕ) → i < n → j < SIZES → part.private + i ≤ part.all + j → part.all + j ≤ most
+      → Costs code (part.private + i) (part.all + j) (slice_index cells (i * SIZES + j))
+
+-- the plan is one of the context of this number, for its size beside the shared registers
+pub record IsChosenAt (programs : List Program) (sizes : List ℕ) (shared c : ℕ) (plan : Plan) : Type 0 where
+  pub is : (program : Program) → slice_get programs c ≡ Some program
+      → ((cost : ℕ) × IsCellOf program.code (slice_index sizes c) shared cost plan) × IsValidPlan program.code plan
+
+-- such plans, one for each of the first contexts
+pub record AreChosen (programs : List Program) (sizes : List ℕ) (shared n : ℕ) (plans : List Plan) : Type 0 where
+  pub one_each : length plans ≡ n
+  pub each : (c : ℕ) (plan : Plan) → slice_get plans c ≡ Some plan → IsChosenAt programs sizes shared c plan
+
+-- a refusal tells what the tables need, which is above the file
+abbrev pub Refused : List CostTable → ℕ → AllocFault → Type 0
+Refused tables file (NoFit need size) = (need ≡ need_of (demands_of tables)) × (size ≡ file) × (file < need)
+Refused tables file NoMemory = Unit {0}

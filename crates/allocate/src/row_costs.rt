@@ -1,0 +1,135 @@
+//! What the cells of a context cost that have one number of private places.
+
+ghost use Rattle.std.specs.Prelude.{ℕ, ◌≡◌, ◌+◌, ◌<◌, ◌≤◌, List as Sequence, Option as Maybe, Some, IfOk, false, true};
+ghost use Rattle.micro_isa.specs.declared.program.Line.{Line as CodeLine};
+ghost use Rattle.flow_graph.specs.Paths.{IsClosedCode};
+ghost use Rattle.liveness.specs.Lives.{IsLiveOf};
+ghost use Rattle.pressure.specs.Pressures.{IsPressureOf};
+ghost use Rattle.allocate.specs.Fits.{AreFitsOf};
+ghost use Rattle.allocate.specs.Tables.{AreRowCosts, AreSmall, AreWalkCosts, Costs, IsWalkCost, lesser_cost};
+
+use crate::fits::{Fits, fit_cost};
+use budget::{MOST_COST, SIZES};
+use emit::glues;
+use liveness::Live;
+use micro_isa::{MOST_FILE, NoMemory, Program};
+use point_walk::walk;
+use pressure::Pressure;
+use std::alloc::Global;
+
+/// What the cells with `p` private places cost, for each number of places in all from `part.all` on
+/// and up to `most`. The walk is made only where some cell may need it.
+pub(crate) fn row_costs(
+    alloc: Global,
+    program: &Program,
+    live: &Live,
+    part: Pressure,
+    p: u32,
+    most: u32,
+    fits: &Fits,
+) -> Result<[u32; 8], NoMemory>
+    requires closed { IsClosedCode program.now.code }
+    requires live { IsLiveOf program.now.code live.now }
+    requires part { IsPressureOf program.now.code part }
+    requires private { part.private ≤ p }
+    requires all { part.all ≤ MOST_FILE }
+    requires most { most ≤ MOST_FILE }
+    requires fits { AreFitsOf program.now.code part.all fits.now }
+    ensures costs { IfOk result (AreRowCosts program.now.code part p most) }
+    ensures small { IfOk result AreSmall }
+{
+    if are_free(fits, part, p, most) {
+        return Ok([0; 8]);
+    }
+    let walked = walk_costs(alloc, program, live, part, p, most)?;
+    Ok(lesser_costs(fits, part, p, most, &walked))
+}
+
+/// Whether each of these cells costs nothing by a fit.
+fn are_free(fits: &Fits, part: Pressure, p: u32, most: u32) -> bool
+    requires all { part.all ≤ MOST_FILE }
+    requires most { most ≤ MOST_FILE }
+    ensures free { result ≡ true → (code : Sequence CodeLine) → AreFitsOf code part.all fits.now → (j : ℕ) → j < SIZES → p ≤ part.all + j → part.all + j ≤ most → Costs code p (part.all + j) 0 }
+    ensures some { result ≡ false → p ≤ most }
+    ensures all { result ≡ false → part.all ≤ most }
+{
+    for j in 0..SIZES {
+        let r = part.all + j;
+        if p <= r && r <= most && !is_free(fit_cost(fits, part.all, j, p)) {
+            return false;
+        }
+    }
+    true
+}
+
+/// Whether there is a cost, and it is 0.
+fn is_free(cost: Option<u32>) -> bool
+    ensures { result ≡ true → cost ≡ Some 0 }
+{
+    match cost {
+        Some(cost) => cost == 0,
+        None => false,
+    }
+}
+
+/// What the walk costs with `p` private places.
+fn walk_costs(
+    alloc: Global,
+    program: &Program,
+    live: &Live,
+    part: Pressure,
+    p: u32,
+    most: u32,
+) -> Result<[u32; 8], NoMemory>
+    requires closed { IsClosedCode program.now.code }
+    requires live { IsLiveOf program.now.code live.now }
+    requires part { IsPressureOf program.now.code part }
+    requires private { part.private ≤ p }
+    requires order { p ≤ most }
+    requires all { part.all ≤ most }
+    requires few { most ≤ MOST_FILE }
+    ensures costs { IfOk result (AreWalkCosts program.now.code p part.all) }
+    ensures small { IfOk result AreSmall }
+{
+    let plan = walk(alloc, program, live, p, most)?;
+    glues(alloc, program, &plan, part.all)
+}
+
+/// What the cells cost, where the walk costs so much.
+fn lesser_costs(fits: &Fits, part: Pressure, p: u32, most: u32, walked: &[u32; 8]) -> [u32; 8]
+    requires all { part.all ≤ MOST_FILE }
+    requires most { most ≤ MOST_FILE }
+    ensures costs { (code : Sequence CodeLine) → AreFitsOf code part.all fits.now → AreWalkCosts code p part.all walked.now → AreRowCosts code part p most result }
+    ensures small { AreSmall walked.now → AreSmall result }
+{
+    let mut costs = [0u32; 8];
+    for j in 0..8 {
+        costs[j] = cell_cost(fits, part.all, j as u32, p, most, walked[j]);
+    }
+    costs
+}
+
+/// What the cell with `p` private places and `from + j` in all costs, where the walk costs so much;
+/// 0 where no budget looks.
+fn cell_cost(fits: &Fits, from: u32, j: u32, p: u32, most: u32, walked: u32) -> u32
+    requires within { j < SIZES }
+    requires from { from ≤ MOST_FILE }
+    requires most { most ≤ MOST_FILE }
+    ensures cost { (code : Sequence CodeLine) → AreFitsOf code from fits.now → IsWalkCost code p (from + j) walked → p ≤ from + j → from + j ≤ most → Costs code p (from + j) result }
+    ensures small { walked ≤ MOST_COST → result ≤ MOST_COST }
+{
+    if p > from + j || from + j > most {
+        return 0;
+    }
+    lesser_cost(fit_cost(fits, from, j, p), walked)
+}
+
+/// The lesser cost, that by fits if there is one.
+fn lesser_cost(fitted: Option<u32>, walked: u32) -> u32
+    ensures { result ≡ lesser_cost fitted walked }
+{
+    match fitted {
+        Some(cost) => cost.min(walked),
+        None => walked,
+    }
+}

@@ -1,0 +1,87 @@
+//! How many glue words a plan has with more or fewer places in all.
+
+ghost use Rattle.std.specs.Prelude.{ℕ, ◌≡◌, ◌+◌, ◌*◌, ◌<◌, ◌≤◌, IfOk, length, slice_get, slice_index};
+ghost use Rattle.flow_graph.specs.Paths.{IsClosedCode};
+ghost use Rattle.plan.specs.ValidPlans.{IsValidPlan};
+ghost use Rattle.emitted.specs.Edges.{next_at};
+ghost use Rattle.emitted.specs.Words.{glue_of};
+ghost use Rattle.emit.specs.Sized.{AreCostsTo, AreFew, glue_with, with_places};
+
+use crate::after::places_after;
+use crate::edge_costs::{EdgeCosts, costs_to, steps_with};
+use crate::rows::next_at;
+use crate::sizes::with_jump;
+use micro_isa::{Line, NoMemory, Program};
+use plan::Plan;
+use std::alloc::Global;
+
+/// How many glue words a valid plan has with `from` places in all, with one more, and so on: its
+/// rows are the same, and more places leave more edges a free one.
+pub fn glues(alloc: Global, program: &Program, plan: &Plan, from: u32) -> Result<[u32; 8], NoMemory>
+    requires closed { IsClosedCode program.now.code }
+    requires valid { IsValidPlan program.now.code plan.now }
+    requires small { from ≤ 128 }
+    ensures numbers { IfOk result (λ glues. (j : ℕ) → j < 8 → slice_index glues j ≡ glue_of program.now.code (with_places plan.now (from + j))) }
+    ensures few { IfOk result (λ glues. (j : ℕ) → slice_index glues j ≤ 763 * 2048) }
+{
+    glues_of(alloc, program.code.as_slice(), plan, from)
+}
+
+fn glues_of(alloc: Global, code: &[Line], plan: &Plan, from: u32) -> Result<[u32; 8], NoMemory>
+    requires closed { IsClosedCode code.now }
+    requires valid { IsValidPlan code.now plan.now }
+    requires small { from ≤ 128 }
+    ensures numbers { IfOk result (λ glues. (j : ℕ) → j < 8 → slice_index glues j ≡ glue_of code.now (with_places plan.now (from + j))) }
+    ensures few { IfOk result (λ glues. (j : ℕ) → slice_index glues j ≤ 763 * 2048) }
+{
+    let mut glues = [0u32; 8];
+    for i in 0..code.len() {
+        let (fall, jump) = edges_at(alloc, code, plan, i)?;
+        add(&mut glues, fall, jump, from);
+    }
+    Ok(glues)
+}
+
+/// What the edges of instruction `i` cost: where it falls through, and where it jumps.
+fn edges_at(
+    alloc: Global,
+    code: &[Line],
+    plan: &Plan,
+    i: usize,
+) -> Result<(EdgeCosts, EdgeCosts), NoMemory>
+    requires closed { IsClosedCode code.now }
+    requires valid { IsValidPlan code.now plan.now }
+    requires within { i < length code.now }
+    ensures fall { IfOk result (λ costs. AreCostsTo code.now plan.now i (next_at (slice_get code.now i) i).fall costs.0) }
+    ensures jump { IfOk result (λ costs. AreCostsTo code.now plan.now i (next_at (slice_get code.now i) i).jump costs.1) }
+{
+    let after = places_after(code, plan, i);
+    let next = next_at(code, i);
+    let fall = costs_to(alloc, code, plan, i, &after, next.fall)?;
+    let jump = costs_to(alloc, code, plan, i, &after, next.jump)?;
+    Ok((fall, jump))
+}
+
+/// Adds the glue words of an instruction with these edges, for each number of places.
+fn add(glues: &mut [u32; 8], fall: EdgeCosts, jump: EdgeCosts, from: u32)
+    requires fall { AreFew fall }
+    requires jump { AreFew jump }
+    requires small { from ≤ 128 }
+    requires few { (j : ℕ) → slice_index glues.old j ≤ 763 * 2047 }
+    ensures more { (j : ℕ) → j < 8 → slice_index glues.new j ≡ slice_index glues.old j + glue_with fall jump (from + j) }
+    ensures few { (j : ℕ) → slice_index glues.new j ≤ slice_index glues.old j + 763 }
+{
+    for j in 0..8 {
+        glues[j] += glue_with(fall, jump, from + j as u32);
+    }
+}
+
+/// The glue words of an instruction with these edges, where so many places are there.
+fn glue_with(fall: EdgeCosts, jump: EdgeCosts, places: u32) -> u32
+    requires fall { AreFew fall }
+    requires jump { AreFew jump }
+    ensures value { result ≡ glue_with fall jump places }
+    ensures few { result ≤ 763 }
+{
+    steps_with(fall, places) + with_jump(steps_with(jump, places))
+}

@@ -1,0 +1,102 @@
+//! How many steps an edge takes, by how many places there are in all.
+
+ghost use Rattle.std.specs.Prelude.{ℕ, ◌≡◌, ◌<◌, ◌≤◌, IfOk, length, slice_index};
+ghost use Rattle.flow_graph.specs.Paths.{Edge, IsClosedCode};
+ghost use Rattle.edge_moves.specs.ParallelMove.{AreDistinct};
+ghost use Rattle.plan.specs.ValidPlans.{IsValidPlan};
+ghost use Rattle.emitted.specs.Edges.{pairs_from, free_from};
+ghost use Rattle.emit.specs.Tables.{AreAfter};
+ghost use Rattle.emit.specs.Sized.{AreCostsOf, AreCostsTo, place_or_end, steps_with};
+
+use crate::after::Places;
+use crate::edges::{free_place, moves_some, pairs_of};
+use crate::rows::places_at;
+use edge_moves::{Costs, costs};
+use micro_isa::{Line, NoMemory, PReg};
+use plan::{Place, Plan};
+use std::alloc::Global;
+
+/// How many steps an edge takes: `with_free` where the least place that no pair names is there,
+/// else `without`.
+#[derive(Clone, Copy, Debug)]
+pub struct EdgeCosts {
+    pub unnamed: u32,
+    pub with_free: u32,
+    pub without: u32,
+}
+
+/// The steps of an edge on which nothing moves, or of none.
+const NOTHING: EdgeCosts = EdgeCosts {
+    unnamed: 0,
+    with_free: 0,
+    without: 0,
+};
+
+/// How many steps these are where so many places are there.
+pub(crate) fn steps_with(costs: EdgeCosts, places: u32) -> u32
+    ensures { result ≡ steps_with costs places }
+{
+    if costs.unnamed < places {
+        costs.with_free
+    } else {
+        costs.without
+    }
+}
+
+/// The least place below 255 that no pair names; else 255.
+fn unnamed(pairs: &[(PReg, PReg)]) -> u32
+    ensures { result ≡ place_or_end 255 (free_from pairs.now 255 0) }
+{
+    match free_place(pairs, 255) {
+        Some(place) => place.0 as u32,
+        None => 255,
+    }
+}
+
+/// What it costs to move from these places to those of the next row.
+fn costs_of(alloc: Global, after: &Places, next: &[Place]) -> Result<EdgeCosts, NoMemory>
+    requires distinct { AreDistinct (pairs_from (λ k. slice_index after.now k) next.now) }
+    requires few { length next.now ≤ 128 }
+    ensures { IfOk result (AreCostsOf (pairs_from (λ k. slice_index after.now k) next.now)) }
+{
+    if !moves_some(after, next) {
+        return Ok(NOTHING);
+    }
+    let pairs = pairs_of(alloc, after, next)?;
+    Ok(costs_between(pairs.as_slice()))
+}
+
+/// What the moves of these pairs cost.
+fn costs_between(pairs: &[(PReg, PReg)]) -> EdgeCosts
+    requires distinct { AreDistinct pairs.now }
+    requires few { length pairs.now ≤ 128 }
+    ensures { AreCostsOf pairs.now result }
+{
+    let Costs { with_free, without } = costs(pairs);
+    EdgeCosts {
+        unnamed: unnamed(pairs),
+        with_free,
+        without,
+    }
+}
+
+/// What the edge from instruction `i`, after which registers are at `after`, to a successor costs.
+pub(crate) fn costs_to(
+    alloc: Global,
+    code: &[Line],
+    plan: &Plan,
+    i: usize,
+    after: &Places,
+    next: Option<u32>,
+) -> Result<EdgeCosts, NoMemory>
+    requires closed { IsClosedCode code.now }
+    requires valid { IsValidPlan code.now plan.now }
+    requires after { AreAfter code.now plan.now i after.now }
+    requires edges { (j : ℕ) → next ≡ Some j → Edge code.now i j }
+    ensures { IfOk result (AreCostsTo code.now plan.now i next) }
+{
+    match next {
+        Some(j) => costs_of(alloc, after, places_at(plan.rows.as_slice(), j as usize)),
+        None => Ok(NOTHING),
+    }
+}
