@@ -4,3 +4,5 @@ pub mod Rising
 pub mod Once
 pub mod Valid
 pub mod Rooms
+pub mod Standing
+pub mod Rows

@@ -205,7 +205,7 @@ none_there false (Some x) e on = absurd (cc)
 
 -- tables
 
-none_at : (k : ℕ) → place_at nothing k ≡ None
+pub none_at : (k : ℕ) → place_at nothing k ≡ None
 none_at k = elim (leb_tells 128 k) [
   | inl past ↦ get_or-eq_default nothing None past.1
   | inr less ↦ get_or-replicate 128 k None None less.1

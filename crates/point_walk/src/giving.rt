@@ -27,7 +27,7 @@ pub fn give_wish_below(
     }
 }
 
-fn if_below(wish: Option<u8>, p: u32) -> Option<u8>
+pub fn if_below(wish: Option<u8>, p: u32) -> Option<u8>
     ensures { IsBelow p wish result }
 {
     match wish {
@@ -56,7 +56,7 @@ pub fn give_wish_free(
     }
 }
 
-fn if_untaken(wish: Option<u8>, taken: u128) -> Option<u8>
+pub fn if_untaken(wish: Option<u8>, taken: u128) -> Option<u8>
     requires { (x : ℕ) → wish ≡ Some x → x < 128 }
     ensures { IsUntaken taken wish result }
 {

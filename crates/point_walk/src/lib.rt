@@ -2,6 +2,7 @@
 #![tactic(auto)]
 
 mod giving;
+mod keeping;
 mod row;
 mod stage;
 mod walking;

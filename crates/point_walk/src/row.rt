@@ -1,45 +1,81 @@
 ghost use Rattle.std.specs.Prelude.{ℕ, ◌≡◌, ◌<◌, Some, slice_get, IfOk, length, if◌then◌else◌};
+ghost use Rattle.std.specs.List.{Contains};
 ghost use Rattle.flow_graph.specs.Paths.{IsClosedCode, IsSmall};
 ghost use Rattle.liveness.specs.Lives.{IsLiveOf};
 ghost use Rattle.liveness.specs.Sets.{members};
 ghost use Rattle.point_walk.specs.Walks.{written_in, falls_in, IsWritePlace, IsPlaceFor, IsLeastApart, place_at, place_or_zero, nothing, put, entries, Follows, AreGiven};
 ghost use Rattle.point_walk.specs.Tables.{IsTable, ArePlacesOf};
+ghost use Rattle.point_walk.specs.Keeping.{AreAmong};
 
 use crate::giving::{least_free, place_set};
+use crate::keeping::{clear, stands};
 use crate::stage::{fill, grant_below, grant_free};
-use liveness::{Live, crossing, survivors, take_least};
+use liveness::{Live, crossing, register_set, survivors, take_least};
 use micro_isa::{Line, List, NoMemory, VReg, successors, writes};
 use plan::{Place, PlanRow};
 use std::alloc::Global;
 
-/// The row of instruction `i`, given the wishes from the row before; leaves those for the next.
+/// The row of instruction `i`, given the wishes from the row before and the registers that have
+/// one; leaves those for the next.
 pub fn next_row(
     alloc: Global,
     code: &[Line],
     live: &Live,
     i: usize,
     p: u32,
-    wishes: &mut [Option<u8>],
+    table: &mut [Option<u8>],
+    held: &mut u128,
 ) -> Result<PlanRow, NoMemory>
     requires closed { IsClosedCode code.now }
     requires live { IsLiveOf code.now live.now }
     requires here { i < length code.now }
-    requires wishes { IsTable wishes.old }
-    ensures wishes { IsTable wishes.new }
-    ensures follows { IfOk result (λ row. Follows code.now p i wishes.old row wishes.new) }
+    requires wishes { IsTable table.old }
+    requires held { AreAmong table.old (members 128 held.old) }
+    ensures wishes { IsTable table.new }
+    ensures held { IfOk result (λ row. AreAmong table.new (members 128 held.new)) }
+    ensures follows { IfOk result (λ row. Follows code.now p i table.old row table.new) }
 {
     let before = live.live_in(i as u32);
     let stay = survivors(code, live, i);
-    let mut places: [Option<u8>; 128] = [None; 128];
-    give_places(before, crossing(code, live, i), wishes, p, &mut places);
+    settle(before, crossing(code, live, i), p, *held, table);
     let written = writes(&code[i].instr);
-    let write = write_place(written, stay, &places);
-    let listed = list_places(alloc, before, &places)?;
-    leave(wishes, &places, falls(code, i), written, write);
+    let write = write_place(written, stay, table);
+    let listed = list_places(alloc, before, table)?;
+    *held = leave(table, before, falls(code, i), written, write);
     Ok(PlanRow {
         places: listed,
         write,
     })
+}
+
+/// Makes the table of the wishes this row's: where each register can keep its place, only those of
+/// the others are taken out.
+fn settle(before: u128, cross: u128, p: u32, held: u128, table: &mut [Option<u8>])
+    requires wishes { IsTable table.old }
+    requires held { AreAmong table.old (members 128 held) }
+    requires crossing { (k : ℕ) → Contains (members 128 cross) k → Contains (members 128 before) k }
+    ensures given { AreGiven p table.old (members 128 before) (members 128 cross) table.new }
+    ensures table { IsTable table.new }
+    ensures among { AreAmong table.new (members 128 before) }
+{
+    if stands(before, cross, p, table) {
+        clear(held & !before, table);
+    } else {
+        give_anew(before, cross, p, table);
+    }
+}
+
+/// Gives all places of this row anew, by the wishes in the table.
+fn give_anew(before: u128, cross: u128, p: u32, table: &mut [Option<u8>])
+    requires wishes { IsTable table.old }
+    requires crossing { (k : ℕ) → Contains (members 128 cross) k → Contains (members 128 before) k }
+    ensures given { AreGiven p table.old (members 128 before) (members 128 cross) table.new }
+    ensures table { IsTable table.new }
+    ensures among { AreAmong table.new (members 128 before) }
+{
+    let mut places: [Option<u8>; 128] = [None; 128];
+    give_places(before, cross, table, p, &mut places);
+    table.copy_from_slice(&places);
 }
 
 /// Gives places to the registers that are live in: by their wishes, as far as those are private
@@ -143,39 +179,36 @@ fn falls(code: &[Line], i: usize) -> bool
     successors(&code[i].instr, i as u32).fall.is_some()
 }
 
-/// The wishes for the next row: the places after this one, if it falls through, and else none.
+/// The wishes for the next row, and the registers that have one: the places after this row, if it
+/// falls through, and else none.
 fn leave(
-    wishes: &mut [Option<u8>],
-    places: &[Option<u8>],
+    table: &mut [Option<u8>],
+    held: u128,
     falls: bool,
     written: Option<VReg>,
     write: Option<u8>,
-)
-    requires wishes { IsTable wishes.old }
-    requires places { IsTable places.now }
+) -> u128
+    requires table { IsTable table.old }
+    requires held { AreAmong table.old (members 128 held) }
     requires small { IsSmall written }
-    ensures { wishes.new ≡ (if falls then put written write places.now else nothing) }
+    ensures left { table.new ≡ (if falls then put written write table.old else nothing) }
+    ensures held { AreAmong table.new (members 128 result) }
 {
     if falls {
-        leave_places(wishes, places, written, write);
+        put_write(table, written, write);
+        held | register_set(written)
     } else {
-        wishes.fill(None);
+        clear(held, table);
+        0
     }
 }
 
-fn leave_places(
-    wishes: &mut [Option<u8>],
-    places: &[Option<u8>],
-    written: Option<VReg>,
-    write: Option<u8>,
-)
-    requires wishes { IsTable wishes.old }
-    requires places { IsTable places.now }
+fn put_write(table: &mut [Option<u8>], written: Option<VReg>, write: Option<u8>)
+    requires table { IsTable table.old }
     requires small { IsSmall written }
-    ensures { wishes.new ≡ put written write places.now }
+    ensures { table.new ≡ put written write table.old }
 {
-    wishes.copy_from_slice(places);
     if let Some(register) = written {
-        wishes[register.0 as usize] = write;
+        table[register.0 as usize] = write;
     }
 }

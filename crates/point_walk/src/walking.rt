@@ -41,8 +41,9 @@ fn walk_rows(alloc: Global, code: &[Line], live: &Live, p: u32) -> Result<List<P
     let mut rows = List::new(alloc);
     rows.reserve(code.len())?;
     let mut wishes: [Option<u8>; 128] = [None; 128];
+    let mut held = 0;
     'rows: for i in 0..code.len() {
-        let row = next_row(alloc, code, live, i, p, &mut wishes)?;
+        let row = next_row(alloc, code, live, i, p, &mut wishes, &mut held)?;
         let Ok(()) = rows.push(row) else {
             return Err(NoMemory);
         };

@@ -1,9 +1,12 @@
 use Rattle.point_walk.specs.Walks.{Walked}
+use Rattle.liveness.specs.Sets.{members}
 use Rattle.point_walk.specs.Tables.{IsTable}
+use Rattle.point_walk.specs.Keeping.{AreAmong}
 use Rattle.point_walk.proofs.walking.walk_rows.Given as goal
 
 abbrev pub invariant-rows : goal.invariant-rows
 invariant-rows l = record {
   table : IsTable l.wishes;
+  among : AreAmong l.wishes (members 128 l.held);
   walked : Walked l.code l.p l.i l.rows l.wishes;
 }

@@ -1,0 +1,59 @@
+ghost use Rattle.std.specs.Prelude.{ℕ, ◌≡◌, ◌<◌, true, Some, []};
+ghost use Rattle.liveness.specs.Sets.{members};
+ghost use Rattle.point_walk.specs.Tables.{IsTable};
+ghost use Rattle.point_walk.specs.Keeping.{AreFresh, AreBelow, cleared};
+
+use crate::giving::{if_below, if_untaken, place_set};
+use liveness::take_least;
+
+/// Whether each register that is live in can keep its place: each has one, no two the same, and
+/// those that cross have one below `p`.
+pub fn stands(before: u128, cross: u128, p: u32, table: &[Option<u8>]) -> bool
+    requires { IsTable table.now }
+    ensures below { result ≡ true → AreBelow p table.now (members 128 cross) }
+    ensures fresh { result ≡ true → AreFresh table.now [] (members 128 before) }
+{
+    are_below(cross, p, table) && are_fresh(before, table)
+}
+
+/// Whether each register of the set has a place below `p`.
+fn are_below(registers: u128, p: u32, table: &[Option<u8>]) -> bool
+    requires { IsTable table.now }
+    ensures { result ≡ true → AreBelow p table.now (members 128 registers) }
+{
+    let mut rest = registers;
+    'registers: while let Some(register) = take_least(&mut rest) {
+        if if_below(table[register.0 as usize], p).is_none() {
+            return false;
+        }
+    }
+    true
+}
+
+/// Whether each register of the set has a place, and no two the same.
+fn are_fresh(registers: u128, table: &[Option<u8>]) -> bool
+    requires { IsTable table.now }
+    ensures { result ≡ true → AreFresh table.now [] (members 128 registers) }
+{
+    let mut seen = 0;
+    let mut rest = registers;
+    'registers: while let Some(register) = take_least(&mut rest) {
+        let place = if_untaken(table[register.0 as usize], seen);
+        if place.is_none() {
+            return false;
+        }
+        seen |= place_set(place);
+    }
+    true
+}
+
+/// Takes the places of these registers out of the table.
+pub fn clear(registers: u128, table: &mut [Option<u8>])
+    requires { IsTable table.old }
+    ensures { table.new ≡ cleared table.old (members 128 registers) }
+{
+    let mut rest = registers;
+    'registers: while let Some(register) = take_least(&mut rest) {
+        table[register.0 as usize] = None;
+    }
+}
