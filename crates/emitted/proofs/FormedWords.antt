@@ -1,5 +1,5 @@
 -- The words of a valid plan are formed.
-use Rattle.std.proofs.Common.{◌≡◌, ℕ, zero, suc, ◌-◌, ◌*◌, ◌<◌, ◌≤◌, List, [], ◌∷◌, ◌++◌, map, length, Option, Some, None, Bool, true, false, refl, sym, ap, ◌∙◌, subst, length-append, inl, inr, arith}
+use Rattle.std.proofs.Common.{◌+◌, ◌≡◌, ℕ, zero, suc, ◌-◌, ◌*◌, ◌<◌, ◌≤◌, List, [], ◌∷◌, ◌++◌, map, length, Option, Some, None, Bool, true, false, refl, sym, ap, ◌∙◌, subst, length-append, inl, inr, arith}
 use Rattle.std.specs.Prelude.{slice_get, nat_lt, ◌&&◌, ◌||◌}
 use Rattle.std.specs.List.{AllByRecursion}
 use Rattle.std.proofs.lemmas.Bool.{lt-ltb}
@@ -22,7 +22,8 @@ use Rattle.edge_moves.specs.Within.{StepsWithin}
 use Rattle.plan.specs.declared.row.Plan.{Plan}
 use Rattle.plan.specs.ValidPlans.{place_in, IsValidPlan}
 use Rattle.micro_isa.specs.Pieces.{pieces, total, HasAt}
-use Rattle.emitted.specs.Edges.{row_at, place_or_zero, written_in, next_at, steps_for, edge_steps, steps_to, fall_steps, jump_steps}
+use Rattle.micro_isa.specs.declared.limits.TheConstants.{MOST_WORDS}
+use Rattle.emitted.specs.Edges.{most_edge_steps, row_at, place_or_zero, written_in, next_at, steps_for, edge_steps, steps_to, fall_steps, jump_steps}
 use Rattle.emitted.specs.Words.{reword, step_word, jump_word, address, size_with_jump, block_address, target_for, target_from, word_for, word_at, falls_at, piece_at, block_words, block_to, block_at, words_of_plan}
 use Rattle.micro_isa.proofs.Pieced.{length-pieces}
 use Rattle.emitted.proofs.Rows.{item_at, live_read, place_below, write_below}
@@ -139,7 +140,7 @@ jumps Halt i j h = absurd (cc)
 counted_there : (ws : List Word) (target : ℕ) (w : Word) → slice_get ws target ≡ Some w → w.counted ≡ true → is_counted_at ws (Some target) ≡ true
 counted_there ws target w h c = rw h c
 
-pub total_most : (f : ℕ → ℕ) (n : ℕ) → ((i : ℕ) → i < n → f i ≤ 382) → total f n ≤ 382 * n
+pub total_most : (f : ℕ → ℕ) (n : ℕ) → ((i : ℕ) → i < n → f i ≤ most_edge_steps + 1) → total f n ≤ (most_edge_steps + 1) * n
 total_most f zero h = omega arith
 total_most f (suc n) h =
     let rest = total_most f n (λ i lt. h i (omega arith)) in
@@ -184,19 +185,19 @@ module _ (code : List Line) (plan : Plan) (file : ℕ) (reg : ℕ → PReg) (one
   words = words_of_plan code plan reg
 
   -- the steps of a fall or a jump
-  steps_below : (i : ℕ) → i < length code → (o : Option ℕ) → ((j : ℕ) (l : Line) → o ≡ Some j → slice_get code i ≡ Some l → GoesTo (next_of l.instr i) j) → StepsWithin plan.r (steps_to code plan i o) × (length (steps_to code plan i o) ≤ 381)
+  steps_below : (i : ℕ) → i < length code → (o : Option ℕ) → ((j : ℕ) (l : Line) → o ≡ Some j → slice_get code i ≡ Some l → GoesTo (next_of l.instr i) j) → StepsWithin plan.r (steps_to code plan i o) × (length (steps_to code plan i o) ≤ most_edge_steps)
   steps_below i lt None goes = (tt, omega arith)
   steps_below i lt (Some j) goes =
       let l = item_at code i lt in
       let go = goes j l.0 refl l.1 in (
         subst (λ o. StepsWithin plan.r (steps_for plan (written_in o) i j)) (sym l.1) (steps_within code plan file reg one_place inside valid closed i j l.0 (written_by l.0.instr) lt l.1 refl go),
-        subst (λ o. length (steps_for plan (written_in o) i j) ≤ 381) (sym l.1) (steps_few code plan file reg one_place inside valid closed i j l.0 (written_by l.0.instr) lt l.1 refl go),
+        subst (λ o. length (steps_for plan (written_in o) i j) ≤ most_edge_steps) (sym l.1) (steps_few code plan file reg one_place inside valid closed i j l.0 (written_by l.0.instr) lt l.1 refl go),
       )
 
-  pub fall_below : (i : ℕ) → i < length code → StepsWithin plan.r (fall_steps code plan i) × (length (fall_steps code plan i) ≤ 381)
+  pub fall_below : (i : ℕ) → i < length code → StepsWithin plan.r (fall_steps code plan i) × (length (fall_steps code plan i) ≤ most_edge_steps)
   fall_below i lt = steps_below i lt (next_at (slice_get code i) i).fall (λ j l e is. inl (ap (λ o. (next_at o i).fall) (sym is) ∙ e))
 
-  pub jump_below : (i : ℕ) → i < length code → StepsWithin plan.r (jump_steps code plan i) × (length (jump_steps code plan i) ≤ 381)
+  pub jump_below : (i : ℕ) → i < length code → StepsWithin plan.r (jump_steps code plan i) × (length (jump_steps code plan i) ≤ most_edge_steps)
   jump_below i lt = steps_below i lt (next_at (slice_get code i) i).jump (λ j l e is. inr (ap (λ o. (next_at o i).jump) (sym is) ∙ e))
 
   -- all targets are words
@@ -216,17 +217,17 @@ module _ (code : List Line) (plan : Plan) (file : ℕ) (reg : ℕ → PReg) (one
       by [] h = address_below j there
       by (s ∷ ss) h = slice_get_within words (block_address code plan i) (step_word reg s) h.0
 
-  -- at most 1,564,672 words
-  pub words_few : length words ≤ 1564672
+  -- at most as many words as an image may have
+  pub words_few : length words ≤ MOST_WORDS
   words_few =
       let n = length code in
       let front = length-pieces (piece_at code plan reg) n in
       let back = length-pieces (block_at code plan reg) n in
       let first = total_most (λ i. length (piece_at code plan reg i)) n (λ i lt. let k = (fall_below i lt).1 in omega (arith, piece_long code plan file reg i)) in
-      let second = total_most (λ i. length (block_at code plan reg i)) n (λ i lt. subst (λ k. k ≤ 382) (sym (block_long code plan file reg i (next_at (slice_get code i) i).jump)) (with_jump (jump_steps code plan i) (jump_below i lt).1)) in
+      let second = total_most (λ i. length (block_at code plan reg i)) n (λ i lt. subst (λ k. k ≤ most_edge_steps + 1) (sym (block_long code plan file reg i (next_at (slice_get code i) i).jump)) (with_jump (jump_steps code plan i) (jump_below i lt).1)) in
       omega (arith, closed.few, length-append (pieces (piece_at code plan reg) n) (pieces (block_at code plan reg) n))
     where
-      with_jump : (ss : List Step) → length ss ≤ 381 → size_with_jump ss ≤ 382
+      with_jump : (ss : List Step) → length ss ≤ most_edge_steps → size_with_jump ss ≤ most_edge_steps + 1
       with_jump [] h = omega arith
       with_jump (s ∷ ss) h = omega arith
 

@@ -24,7 +24,7 @@ use Rattle.plan.specs.declared.row.Plan.{Plan}
 use Rattle.liveness.specs.Surviving.{Stays}
 use Rattle.plan.specs.ValidPlans.{place_in, IsValidPlan}
 use Rattle.micro_isa.specs.Pieces.{pieces, total, HasAt}
-use Rattle.emitted.specs.Edges.{row_at, place_or_zero, written_in, next_at, place_after, place, pair_from, free_from, edge_pairs, steps_for, edge_steps, steps_to, fall_steps}
+use Rattle.emitted.specs.Edges.{most_edge_steps, row_at, place_or_zero, written_in, next_at, place_after, place, pair_from, free_from, edge_pairs, steps_for, edge_steps, steps_to, fall_steps}
 use Rattle.emitted.specs.Words.{step_word, jump_word, piece_size, address, size_with_jump, block_size, block_address, target_for, target_from, word_for, word_at, piece_at, block_words, block_to, block_at, words_of_plan}
 use Rattle.semantics.proofs.Settling.{counted_stays}
 use Rattle.emitted.proofs.Glue.{stand, do_words, steps_run, jump_goes}
@@ -219,7 +219,7 @@ module _ (code : List Line) (plan : Plan) (size : ℕ) (reg : ℕ → PReg) wher
           let pw = pairs_within plan.r (place_after (row_at plan i) w) (row_at plan j).places (λ k h. after_below k (has_live code plan valid j there k h)) (listed_below code plan valid j there) in
           keeps_within pairs (free_from pairs plan.r 0) (steps_for plan w i j) refl plan.r pw (free_within pairs plan.r plan.r 0 (omega arith))
 
-      pub steps_few : length (steps_for plan w i j) ≤ 381
+      pub steps_few : length (steps_for plan w i j) ≤ most_edge_steps
       steps_few =
           let pairs = edge_pairs plan w i j in
           let qs = (row_at plan j).places in

@@ -1,5 +1,6 @@
 -- The edges of a plan: where each register comes from and goes to, the free place, and the steps that move it.
-use Rattle.std.specs.Prelude.{ℕ, zero, suc, ◌+◌, ◌==◌, ◌||◌, List, [], map, Option, Some, None, slice_get, if◌then◌else◌}
+use Rattle.std.specs.Prelude.{ℕ, zero, suc, ◌+◌, ◌-◌, ◌*◌, ◌==◌, ◌||◌, List, [], map, Option, Some, None, slice_get, if◌then◌else◌}
+use Rattle.micro_isa.specs.declared.limits.TheConstants.{MOST_FILE}
 use Rattle.micro_isa.specs.declared.instr.Next.{Next}
 use Rattle.micro_isa.specs.declared.program.VReg.{VReg}
 use Rattle.micro_isa.specs.declared.program.Line.{Line}
@@ -80,3 +81,7 @@ fall_steps code plan i = steps_to code plan i (next_at (slice_get code i) i).fal
 
 abbrev pub jump_steps : List Line → Plan → ℕ → List Step
 jump_steps code plan i = steps_to code plan i (next_at (slice_get code i) i).jump
+
+-- the most steps of an edge: an exchange, which is three steps, for each register of the file but one
+abbrev pub most_edge_steps : ℕ
+most_edge_steps = 3 * (MOST_FILE - 1)
