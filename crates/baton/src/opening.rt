@@ -1,6 +1,6 @@
 ghost use Rattle.std.specs.Prelude.{◌≡◌, ◌+◌, ◌<◌, ◌≤◌, ℕ, [], IfOk, IfErr, All, length, slice_index_or, vec_len, vec_capacity};
 ghost use Rattle.baton.specs.Views.{opened_view};
-ghost use Rattle.baton.specs.Passes.{IsOfBaton};
+ghost use Rattle.baton.specs.Passes.{IsOfBaton, IsIdle};
 
 use crate::baton::Baton;
 use crate::law::Opening;
@@ -20,7 +20,7 @@ impl<T: Storied> Baton<T> {
         requires few { callers ≤ 16 }
         ensures count { IfOk result (λ r. length r.1 ≡ callers) }
         ensures passes { IfOk result (λ r. (i : ℕ) (d : _) → i < length r.1 → (slice_index_or r.1 i d).seat.me ≡ (opened_view (i + 1) callers (T.history value) (T.origin value), [])) }
-        ensures of { IfOk result (λ r. All (λ p. IsOfBaton T.origin r.0.table.shared p.seat) r.1) }
+        ensures of { IfOk result (λ r. All (λ p. IsOfBaton T.origin r.0.table.shared p.seat × IsIdle p.seat) r.1) }
         ensures key { IfOk result (λ r. (r.0.table.shared.key.value.value ≡ value) × (r.0.table.shared.key.callers ≡ callers)) }
         ensures err { IfErr result (λ v. v ≡ value) }
     {
@@ -84,7 +84,7 @@ fn deal_all<T: Storied>(baton: &Baton<T>, first: Pass<T>, callers: u32, passes: 
     requires room { (vec_len passes.old ≡ 0) × (0 < callers) × (callers ≤ vec_capacity passes.old) }
     ensures count { length passes.new.items ≡ callers }
     ensures passes { (i : ℕ) (d : _) → i < length passes.new.items → (slice_index_or passes.new.items i d).seat.me ≡ (opened_view (i + 1) callers first.seat.me.0.seen (T.origin baton.now.table.shared.key.value.value), []) }
-    ensures of { All (λ p. IsOfBaton T.origin baton.now.table.shared p.seat) passes.new.items }
+    ensures of { All (λ p. IsOfBaton T.origin baton.now.table.shared p.seat × IsIdle p.seat) passes.new.items }
 {
     let mut last = first;
     'deals: while last.number < callers {

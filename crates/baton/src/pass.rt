@@ -34,7 +34,8 @@ pub struct Busy {
 impl<T: Storied> Pass<T> {
     /// From 1 to the callers.
     pub fn number(&self) -> u32
-        ensures { result ≡ self.now.seat.me.0.number }
+        ensures number { result ≡ self.now.seat.me.0.number }
+        ensures small { (0 < result) × (result ≤ self.now.seat.me.0.callers) }
     {
         self.number
     }

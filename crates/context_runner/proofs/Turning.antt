@@ -1,5 +1,5 @@
 -- A turn of the context that is next is a move in round order.
-use Rattle.std.proofs.Common.{◌≡◌, ℕ, ◌<◌, List, [], ◌∷◌, ◌++◌, length, Option, Some, None, Bool, true, false, refl, sym, ap, ◌∙◌, subst}
+use Rattle.std.proofs.Common.{◌≡◌, inl, inr, ℕ, ◌<◌, List, [], ◌∷◌, ◌++◌, length, Option, Some, None, Bool, true, false, refl, sym, ap, ◌∙◌, subst}
 use Rattle.std.specs.Prelude.{option_map, if◌then◌else◌}
 use Rattle.std.proofs.lemmas.Option.{same_Some}
 use Rattle.micro_isa.specs.declared.program.Channel.{Channel}
@@ -30,6 +30,7 @@ use Rattle.run_journal.specs.Histories.{RunState, channels_of}
 use Rattle.run_journal.specs.Keeping.{port_at}
 use Rattle.run_journal.specs.Turns.{ready_answer, open_answer, turn_answer, TurnDid, TurnLowers, to_come}
 use Rattle.context_runner.specs.Moving.{Moved}
+use Rattle.context_runner.specs.Sharing.{OwnOf}
 
 -- an unplugging of a channel, if any
 abbrev lost_at : Option ℕ → List Entry
@@ -113,3 +114,11 @@ turn_last answer r r' s s' c goes can is did =
     ap (last_of None) (d.went.entries ∙ ap (λ x. r.entries ++ x ∷ d.lost) d.tells ∙ ap (λ l. r.entries ++ entry.Ran c d.segment.steps d.segment.end ∷ l) o.entries)
     ∙ last_of-append None r.entries _
     ∙ lost_last c o.channel
+
+-- the entries of a turn are that of its segment and of the port that it lost, if any
+own_by : (e : Entry) (lost : List Entry) (o : Option ℕ) → lost ≡ lost_at o → OwnOf (turn.Ran e) (e ∷ lost)
+own_by e lost None is = inl (ap (λ l. e ∷ l) is)
+own_by e lost (Some k) is = inr (k, ap (λ l. e ∷ l) is)
+
+pub own_of : (r r' : RunState) (s s' : SlotsState) (c : ℕ) (e : Entry) → (did : Advanced r.engine r'.engine r.entries r'.entries s s' c e) → OwnOf (turn.Ran e) (e ∷ did.lost)
+own_of r r' s s' c e did = let o = lost_is r r' s s' c e did in own_by e did.lost o.channel o.entries

@@ -1,3 +1,5 @@
 pub mod Benches
 pub mod Endings
 pub mod Moving
+pub mod Sharing
+pub mod Trying

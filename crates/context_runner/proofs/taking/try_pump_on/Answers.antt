@@ -1,0 +1,10 @@
+use Rattle.std.proofs.Common.{ap, subst}
+use Rattle.context_runner.specs.Sharing.{beginning, PumpedOn}
+use Rattle.context_runner.proofs.SharedTurns.{pump_told}
+use Rattle.context_runner.proofs.taking.try_pump_on.Goals as goal
+
+pub returns-in-Ok-clause-told : goal.returns-in-Ok-clause-told
+returns-in-Ok-clause-told g c =
+    let t = c.pump-pumped in
+    let did = subst (λ b. PumpedOn t.result b.run t.new.self.run) c.value_mut.ensures.value t.ensures.pumped in
+    pump_told (beginning c.args.baton.now.table.shared.key.value.value) t.result c.args.pass.now.seat.me.0 c.try_take.new.pass.seat.me.0 c.put.new.pass.seat.me.0 c.in-Ok.held.value t.new.self c.in-Ok.ensures.origin c.in-Ok.ensures.ok.0 c.in-Ok.ensures.ok.1 did (ap (λ m. m.0) c.put.ensures.put)
