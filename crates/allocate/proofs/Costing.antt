@@ -7,6 +7,8 @@ use Rattle.micro_isa.specs.declared.limits.TheConstants.{MOST_FILE}
 use Rattle.micro_isa.specs.declared.program.Line.{Line}
 use Rattle.flow_graph.specs.Paths.{IsClosedCode}
 use Rattle.pressure.specs.declared.region.Regions.{Regions}
+use Rattle.pressure.specs.declared.pressure_of.Pressure.{Pressure}
+use Rattle.pressure.specs.Pressures.{IsPressureOf}
 use Rattle.pressure.specs.Regions.{AreRegionsOf}
 use Rattle.plan.specs.declared.row.Plan.{Plan}
 use Rattle.range_colour.specs.declared.fit.Fit.{Fit}
@@ -15,14 +17,16 @@ use Rattle.range_colour.specs.Regional.{AreFits, DoFit, fits_test}
 use Rattle.range_colour.proofs.Grouping.{region_none}
 use Rattle.range_colour.proofs.Unique.{region_once}
 use Rattle.point_walk.specs.Walks.{IsWalk}
+use Rattle.point_walk.proofs.Beyond.{walk_beyond}
 use Rattle.point_walk.proofs.Once.{walk_once}
+use Rattle.point_walk.proofs.Rooms.{room_of}
 use Rattle.emitted.specs.Words.{glue_of}
 use Rattle.emit.specs.Sized.{with_places}
 use Rattle.allocate.specs.declared.cell.Planned.{Planned}
 use Rattle.allocate.specs.declared.fits.Fits.{Fits}
 use Rattle.allocate.specs.Cells.{IsCell}
 use Rattle.allocate.specs.Fits.{AreFitsOf, AreRegionCosts, TellsRegions, TellsWhole}
-use Rattle.allocate.specs.Tables.{Costs, IsFitCost, IsFitted, IsRegionCost, IsWalkCost, lesser_cost}
+use Rattle.allocate.specs.Tables.{Costs, IsFitCost, IsFitted, IsRegionCost, AreWalkCosts, IsWalkCost, lesser_cost}
 use Rattle.allocate.proofs.Still.{whole_no_glue}
 
 module _ (code : List Line) (p r : ℕ) where
@@ -127,3 +131,14 @@ region_costs_are code regions are fits are_fits from plan costs serves numbers j
   λ out. region_none code regions are fits are_fits p (from + j) out,
   λ test. (record { p = p; r = from + j; rows = plan.rows }, serves p (from + j) order few test, numbers j less),
 )
+
+-- a walk with as many private places as places in all serves with more private ones
+pub beyond_costs : (code : List Line) (part : Pressure) (costs : List ℕ) → IsClosedCode code → IsPressureOf code part → part.private ≤ part.all → AreWalkCosts code part.all part.all costs
+    → (p : ℕ) → part.all ≤ p → AreWalkCosts code p part.all costs
+beyond_costs code part costs closed exact order walked p le j less =
+    let room = room_of code part.all part.all (part.private, exact.private, order) (part.all, exact.all, omega arith) in
+    let walk = walked j less in
+    (record { p = p; r = part.all + j; rows = walk.0.rows }, walk_beyond code part.all p (part.all + j) (part.all + j) walk.0 le closed room walk.1, walk.2 ∙ same_glue walk.0 walk.1.all)
+  where
+    same_glue : (plan : Plan) → plan.r ≡ part.all + j → glue_of code plan ≡ glue_of code (record { p = p; r = part.all + j; rows = plan.rows })
+    same_glue plan e = λ i. glue_of code (record { p = plan.p; r = e i; rows = plan.rows })

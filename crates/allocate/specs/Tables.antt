@@ -52,13 +52,18 @@ IsWalkCost code p r cost = (plan : Plan) × IsWalk code p r plan × (cost ≡ gl
 abbrev pub AreWalkCosts : List Line → ℕ → ℕ → List ℕ → Type 0
 AreWalkCosts code p from costs = (j : ℕ) → j < SIZES → IsWalkCost code p (from + j) (slice_index costs j)
 
--- what cells cost with p private places and part.all + j in all, as far as there are so many
-abbrev pub AreRowCosts : List Line → Pressure → ℕ → ℕ → List ℕ → Type 0
-AreRowCosts code part p most costs = (j : ℕ) → j < SIZES → p ≤ part.all + j → part.all + j ≤ most → Costs code p (part.all + j) (slice_index costs j)
-
 -- no cost is too great for a table
 abbrev pub AreSmall : List ℕ → Type 0
 AreSmall costs = (j : ℕ) → slice_index costs j ≤ MOST_COST
+
+-- what the walk costs with `from` private places or more
+abbrev pub IsBeyond : List Line → ℕ → Option (List ℕ) → Type 0
+IsBeyond code from None = Unit {0}
+IsBeyond code from (Some costs) = ((p : ℕ) → from ≤ p → AreWalkCosts code p from costs) × AreSmall costs
+
+-- what cells cost with p private places and part.all + j in all, as far as there are so many
+abbrev pub AreRowCosts : List Line → Pressure → ℕ → ℕ → List ℕ → Type 0
+AreRowCosts code part p most costs = (j : ℕ) → j < SIZES → p ≤ part.all + j → part.all + j ≤ most → Costs code p (part.all + j) (slice_index costs j)
 
 -- the table of a context has the costs of all cells at which a budget can look that leaves so many registers to spare
 pub record IsTabled (spare : ℕ) (code : List Line) (table : CostTable) : Type 0 where

@@ -150,8 +150,10 @@ fn rows_of(
     ensures { IfOk result (AreRows program.now.code part most SIZES) }
 {
     let mut cells = List::new(alloc);
+    let mut beyond: Option<[u32; 8]> = None;
     for i in 0..SIZES {
-        let row = row_costs(alloc, program, live, part, part.private + i, most, fits)?;
+        let p = part.private + i;
+        let row = row_costs(alloc, program, live, part, p, most, fits, &mut beyond)?;
         push_row(&mut cells, &row)?;
     }
     Ok(cells)

@@ -27,7 +27,7 @@ struct Fits {
     regional: Option<Plan>,
 }
 
-fn bundle_of(alloc: Global, text: &[u8]) -> Result<Bundle, Fail>
+pub(crate) fn bundle_of(alloc: Global, text: &[u8]) -> Result<Bundle, Fail>
     requires { length text.now ≤ 2097152 }
     ensures { IfOk result IsFormedBundle }
 {
@@ -70,13 +70,19 @@ fn fits_of(alloc: Global, program: &Program, p: u32, r: u32) -> Result<Fits, Fai
     Ok(Fits { whole, regional })
 }
 
-/// The rows of a plan: `register@place` for each entry, `>place` for a write, a `;` behind each row.
-fn shown(alloc: Global, plan: &Option<Plan>) -> Result<String, Fail> {
+/// The rows of a plan, if there is one.
+fn shown_or_none(alloc: Global, plan: &Option<Plan>) -> Result<String, Fail> {
+    if let Some(plan) = plan {
+        return shown(alloc, plan);
+    }
     let mut text = String::new(alloc);
-    let Some(plan) = plan else {
-        text.push_str("none")?;
-        return Ok(text);
-    };
+    text.push_str("none")?;
+    Ok(text)
+}
+
+/// The rows of a plan: `register@place` for each entry, `>place` for a write, a `;` behind each row.
+pub(crate) fn shown(alloc: Global, plan: &Plan) -> Result<String, Fail> {
+    let mut text = String::new(alloc);
     for row in plan.rows.as_slice() {
         for entry in row.places.as_slice() {
             text.push_str(format!(in alloc; "{}@{} ", entry.register.0, entry.place)?.as_str())?;
@@ -112,8 +118,11 @@ fn fits_of_known_programs(rt: HostRuntime) -> Result<(), Fail> {
     ];
     for (text, p, r, whole, regional) in &rows {
         let fits = fits_in(rt.alloc(), text, 0, *p, *r)?;
-        assert_eq!(rt; shown(rt.alloc(), &fits.whole)?.as_str(), *whole);
-        assert_eq!(rt; shown(rt.alloc(), &fits.regional)?.as_str(), *regional);
+        assert_eq!(rt; shown_or_none(rt.alloc(), &fits.whole)?.as_str(), *whole);
+        assert_eq!(rt;
+            shown_or_none(rt.alloc(), &fits.regional)?.as_str(),
+            *regional
+        );
     }
     Ok(())
 }

@@ -3,6 +3,7 @@ pub mod Stages
 pub mod Rising
 pub mod Once
 pub mod Valid
+pub mod Beyond
 pub mod Rooms
 pub mod Standing
 pub mod Rows
