@@ -71,9 +71,9 @@ report_of_entries steps need m entries r answer text replays legal answered told
     })
 
 -- a run that may go on is served
-so_far_served : (core : Core) (o : Option End) → ending_of core ≡ o → IsServed (status_so_far o core.phases)
-so_far_served core None h = tt
-so_far_served core (Some end) h = ended_served core end core.phases h
+so_far_served : (core : Core) (o : Option End) → IsServed (status_so_far o core.phases)
+so_far_served core None = tt
+so_far_served core (Some end) = ended_served end core.phases
 
 stray_unserved : (why : ReplayFault) (m : Image) (steps : ℕ) (entries : List Entry) (text : List ℕ) (last : Config Machine) → IsRefused why m steps entries → TellsStray why text → LeadsTo (machine_semantics m) (machine_open m steps) entries last → ⊥
 stray_unserved (fault.Illegal at written) m steps entries text last refused told legal = refused last legal
@@ -82,7 +82,7 @@ stray_unserved fault.NoMemory m steps entries text last refused told legal = tol
 
 replayed_served : (steps need : ℕ) (m : Image) (entries : List Entry) (last : Config Machine) (answer : Status) (text : List ℕ) → LeadsTo (machine_semantics m) (machine_open m steps) entries last → EntriesReplayed steps m need entries answer text → IsServed answer
 replayed_served steps need m entries last answer text legal (inl s) = absurd (stray_unserved s.why m steps entries text last s.refused s.told legal)
-replayed_served steps need m entries last answer text legal (inr r) = subst IsServed (sym r.answered) (so_far_served r.last.core (ending_of r.last.core) refl)
+replayed_served steps need m entries last answer text legal (inr r) = subst IsServed (sym r.answered) (so_far_served r.last.core (ending_of r.last.core))
 
 read_served : (steps need : ℕ) (m : Image) (answer : Status) (lines text : List ℕ) → IsLegalJournal steps m lines → Replayed steps m need lines answer text → IsServed answer
 read_served steps need m answer lines text legal (inl unread) = absurd (unread.unread legal.entries legal.read)

@@ -1,5 +1,5 @@
 -- What each task tells of its input, and with which status.
-use Rattle.std.specs.Prelude.{◌≡◌, ℕ, ◌<◌, ◌≤◌, ◌⊎◌, List, [], ◌∷◌, ◌++◌, Some, None, decimal, codes}
+use Rattle.std.specs.Prelude.{◌≡◌, ℕ, ◌<◌, ◌≤◌, ◌⊎◌, List, [], ◌∷◌, ◌++◌, Bool, true, false, Some, None, decimal, codes}
 use Rattle.micro_isa.specs.declared.program.Bundle.{Bundle}
 use Rattle.micro_isa.specs.declared.image.Image.{Image}
 use Rattle.micro_isa.specs.declared.limits.TheConstants.{MOST_STEPS}
@@ -12,6 +12,8 @@ use Rattle.asm_print.specs.Canonical.{canonical_text}
 use Rattle.report_check.specs.Checks.{IsCheckOf}
 use Rattle.commands.specs.declared.status.Status.{Status}
 use Rattle.commands.specs.declared.status.Status.TheVariants as status
+use Rattle.commands.specs.declared.task.Order.{Order}
+use Rattle.commands.specs.declared.task.Order.TheVariants.{Round, Threads}
 use Rattle.commands.specs.declared.task.Task.{Task}
 use Rattle.commands.specs.declared.task.Task.TheVariants as task
 use Rattle.commands.specs.declared.task.BundleTask.{BundleTask}
@@ -20,7 +22,13 @@ use Rattle.commands.specs.declared.task.ImageTask.{ImageTask}
 use Rattle.commands.specs.declared.task.ImageTask.TheVariants as image
 use Rattle.commands.specs.declared.task.JournalTask.{JournalTask}
 use Rattle.commands.specs.declared.task.JournalTask.TheVariants as journal
+use Rattle.ports.specs.declared.told.Told.{Told}
 use Rattle.commands.specs.Reports.{IsReport, IsSourceReport}
+
+-- whether the contexts run in round order
+abbrev pub is_round : Order → Bool
+is_round Round = true
+is_round Threads = false
 
 -- `nofit need N file F`
 abbrev pub no_fit_line : ℕ → ℕ → List ℕ
@@ -52,32 +60,67 @@ pub record IsWritten (answer : Status) (text : List ℕ) (m : Image) : Type 0 wh
   pub answered : answer ≡ status.Done
   pub spelt : Spells text m
 
-abbrev pub RunTells : ℕ → Status → Bundle → List ℕ → Type 0
-RunTells steps answer b text = WhereItFits (λ a. IsReport steps a.image (Some a.need) answer text) answer b text
+abbrev pub RunTells : Bool → ℕ → Status → Bundle → List Told → List Told → List ℕ → Type 0
+RunTells in_rounds steps answer b start now text =
+    WhereItFits (λ a. IsReport in_rounds steps a.image (Some a.need) start now answer text) answer b text
 
 abbrev pub BuildTells : Status → Bundle → List ℕ → Type 0
 BuildTells answer b text = WhereItFits (λ a. IsWritten answer text a.image) answer b text
 
--- what a task tells of a bundle
-abbrev pub TellsOfBundle : BundleTask → Status → Bundle → List ℕ → Type 0
-TellsOfBundle (bundle.Run steps) answer b text = RunTells steps answer b text
-TellsOfBundle (bundle.Source steps) answer b text = IsSourceReport steps b answer text
-TellsOfBundle bundle.Build answer b text = BuildTells answer b text
-TellsOfBundle bundle.Format answer b text = (answer ≡ status.Done) × (text ≡ canonical_text b)
-TellsOfBundle bundle.Check answer b text = (answer ≡ status.Done) × IsCheckOf b text
+-- what a task tells of a bundle, with these ports at hand, and what they tell after it
+abbrev pub TellsOfBundle : BundleTask → Status → Bundle → List Told → List Told → List ℕ → Type 0
+TellsOfBundle (bundle.Run steps order) answer b start now text = RunTells (is_round order) steps answer b start now text
+TellsOfBundle (bundle.Source steps) answer b start now text = IsSourceReport steps b answer text
+TellsOfBundle bundle.Build answer b start now text = BuildTells answer b text
+TellsOfBundle bundle.Format answer b start now text = (answer ≡ status.Done) × (text ≡ canonical_text b)
+TellsOfBundle bundle.Check answer b start now text = (answer ≡ status.Done) × IsCheckOf b text
 
 -- what a task tells of an image; its run tells no need, since an image does not say what it was made for
-abbrev pub TellsOfImage : ImageTask → Status → Image → List ℕ → Type 0
-TellsOfImage (image.Exec steps) answer m text = IsReport steps m None answer text
+abbrev pub TellsOfImage : ImageTask → Status → Image → List Told → List Told → List ℕ → Type 0
+TellsOfImage (image.Exec steps order) answer m start now text = IsReport (is_round order) steps m None start now answer text
+
+-- the order in which an image runs is that of the runner at hand; what runs no image has none
+abbrev pub RunsBundleBy : Bool → BundleTask → Type 0
+RunsBundleBy in_rounds (bundle.Run steps order) = is_round order ≡ in_rounds
+RunsBundleBy in_rounds _ = Unit {0}
+
+abbrev pub RunsImageBy : Bool → ImageTask → Type 0
+RunsImageBy in_rounds (image.Exec steps order) = is_round order ≡ in_rounds
+
+abbrev pub RunsBy : Bool → Task → Type 0
+RunsBy in_rounds (task.OfBundle t) = RunsBundleBy in_rounds t
+RunsBy in_rounds (task.OfImage t) = RunsImageBy in_rounds t
+RunsBy in_rounds (task.OfJournal t) = Unit {0}
+
+-- whether a task runs an image: nothing else asks a port or hands a word to it
+abbrev pub runs_bundle : BundleTask → Bool
+runs_bundle (bundle.Run steps order) = true
+runs_bundle _ = false
+
+abbrev pub runs_image : Task → Bool
+runs_image (task.OfBundle t) = runs_bundle t
+runs_image (task.OfImage t) = true
+runs_image (task.OfJournal t) = false
+
+-- the statuses of what is refused before anything runs
+abbrev pub IsRefusal : Status → Type 0
+IsRefusal status.Usage = Unit {0}
+IsRefusal status.BadBundle = Unit {0}
+IsRefusal status.NoFit = Unit {0}
+IsRefusal status.BadImage = Unit {0}
+IsRefusal status.ReadFault = Unit {0}
+IsRefusal status.TooLong = Unit {0}
+IsRefusal status.BadJournal = Unit {0}
+IsRefusal _ = ⊥
 
 -- a run has this many steps at most
 abbrev pub steps_of_bundle : BundleTask → ℕ
-steps_of_bundle (bundle.Run steps) = steps
+steps_of_bundle (bundle.Run steps order) = steps
 steps_of_bundle (bundle.Source steps) = steps
 steps_of_bundle _ = 0
 
 abbrev pub steps_of_image : ImageTask → ℕ
-steps_of_image (image.Exec steps) = steps
+steps_of_image (image.Exec steps order) = steps
 
 abbrev pub steps_of_journal : JournalTask → ℕ
 steps_of_journal (journal.Replay steps) = steps
@@ -98,7 +141,7 @@ pub record FitsFile (b : Bundle) : Type 0 where
 
 -- nothing in the bundle is a cause for which the task is refused; nothing in an image ever is
 abbrev pub Fits : BundleTask → Bundle → Type 0
-Fits (bundle.Run steps) b = FitsFile b
+Fits (bundle.Run steps order) b = FitsFile b
 Fits bundle.Build b = FitsFile b
 Fits _ b = Unit {0}
 
@@ -108,4 +151,5 @@ IsServed status.Done = Unit {0}
 IsServed status.Trapped = Unit {0}
 IsServed status.Stuck = Unit {0}
 IsServed status.Bound = Unit {0}
+IsServed status.Idle = Unit {0}
 IsServed _ = ⊥

@@ -1,10 +1,10 @@
 //! What each task does with a bundle.
 
-ghost use Rattle.std.specs.Prelude.{◌≡◌, ◌≤◌, IfOk};
+ghost use Rattle.std.specs.Prelude.{◌≡◌, ◌≤◌, IfOk, false, length, map};
 ghost use Rattle.micro_isa.specs.Formed.{IsFormedBundle};
 ghost use Rattle.asm_print.specs.Canonical.{canonical_text};
 ghost use Rattle.report_check.specs.Checks.{IsCheckOf};
-ghost use Rattle.commands.specs.Tells.{steps_of_bundle, TellsOfBundle, Fits, IsServed};
+ghost use Rattle.commands.specs.Tells.{steps_of_bundle, TellsOfBundle, RunsBundleBy, runs_bundle, Fits, IsServed, IsRefusal};
 ghost use Rattle.commands.specs.declared.status.Status.TheVariants as status;
 
 use crate::bundle_images::{build_bundle, run_bundle};
@@ -12,28 +12,38 @@ use crate::sources::run_sources;
 use crate::status::Status;
 use crate::task::{BundleTask, Reply};
 use asm_print::print_bundle;
-use micro_isa::{Bundle, MOST_STEPS, NoMemory};
+use context_runner::Runner;
+use micro_isa::{Bundle, MOST_PORTS, MOST_STEPS, NoMemory};
+use ports::Port;
 use report_check::print_check;
 use std::alloc::Global;
 
-/// Does a task with a formed bundle.
+/// Does a task with a formed bundle and these ports, which are given back. Only the run of an image
+/// asks them or hands them anything.
 #[tactic(auto, using(crate::proofs::Telling::served))]
-pub fn perform_on_bundle(
+pub fn perform_on_bundle<P: Port + Send, X: Runner>(
     alloc: Global,
     task: BundleTask,
     bundle: &Bundle,
-) -> Result<Reply, NoMemory>
+    ports: Vec<P>,
+    runner: &X,
+) -> (Result<Reply, NoMemory>, Vec<P>)
     requires formed { IsFormedBundle bundle.now }
     requires bounded { steps_of_bundle task ≤ MOST_STEPS }
-    ensures tells { IfOk result (λ r. TellsOfBundle task r.status bundle.now r.text.items) }
-    ensures served { IfOk result (λ r. Fits task bundle.now → IsServed r.status) }
+    requires few { length ports.items ≤ MOST_PORTS }
+    requires order { RunsBundleBy X.in_rounds task }
+    ensures tells { IfOk result.0 (λ r. TellsOfBundle task r.status bundle.now (map P.tells ports.items) (map P.tells result.1.items) r.text.items) }
+    ensures served { IfOk result.0 (λ r. Fits task bundle.now → IsServed r.status) }
+    ensures as_many { length result.1.items ≡ length ports.items }
+    ensures aside { runs_bundle task ≡ false → result.1 ≡ ports }
+    ensures refused { IfOk result.0 (λ r. IsRefusal r.status → result.1 ≡ ports) }
 {
     match task {
-        BundleTask::Run { steps } => run_bundle(alloc, bundle, steps),
-        BundleTask::Source { steps } => run_sources(alloc, bundle, steps),
-        BundleTask::Build => build_bundle(alloc, bundle),
-        BundleTask::Format => format_bundle(alloc, bundle),
-        BundleTask::Check => check_bundle(alloc, bundle),
+        BundleTask::Run { steps, order: _ } => run_bundle(alloc, bundle, steps, ports, runner),
+        BundleTask::Source { steps } => (run_sources(alloc, bundle, steps), ports),
+        BundleTask::Build => (build_bundle(alloc, bundle), ports),
+        BundleTask::Format => (format_bundle(alloc, bundle), ports),
+        BundleTask::Check => (check_bundle(alloc, bundle), ports),
     }
 }
 

@@ -18,4 +18,4 @@ pub use bundles::perform_on_bundle;
 pub use images::perform_on_image;
 pub use journals::perform_on_journal;
 pub use status::Status;
-pub use task::{BundleTask, ImageTask, JournalTask, Reply, Task};
+pub use task::{BundleTask, ImageTask, JournalTask, Order, Reply, Task};

@@ -11,11 +11,20 @@ pub enum Task {
     OfJournal(JournalTask),
 }
 
+/// In which order the contexts of an image run.
+#[derive(Clone, Copy, Debug, PartialEq, Eq)]
+pub enum Order {
+    /// One after another, each behind the one that ran last.
+    Round,
+    /// Each on a thread of its own, in any order.
+    Threads,
+}
+
 /// What is to be done with a bundle.
 #[derive(Clone, Copy, Debug, PartialEq, Eq)]
 pub enum BundleTask {
-    /// Its image runs in round order, for at most this many steps.
-    Run { steps: u32 },
+    /// Its image runs, for at most this many steps.
+    Run { steps: u32, order: Order },
     /// Its programs run over registers of their own, in round order, for at most this many steps.
     Source { steps: u32 },
     /// The bytes of its image are told.
@@ -29,8 +38,8 @@ pub enum BundleTask {
 /// What is to be done with an image.
 #[derive(Clone, Copy, Debug, PartialEq, Eq)]
 pub enum ImageTask {
-    /// It runs in round order, for at most this many steps.
-    Exec { steps: u32 },
+    /// It runs, for at most this many steps.
+    Exec { steps: u32, order: Order },
 }
 
 /// What is to be done with a bundle and a journal.

@@ -1,21 +1,38 @@
-//! The program: its words, standard input and standard output, handed to the commands.
+//! The program: its words, standard input and output and its two ports, handed to the commands.
 #![tactic(auto)]
 
 use micro_cli::{Status, plain_call};
 use micro_kit::{StdSink, StdSource};
+use ports::{Port, Ramp, Tally};
 use std::process::ExitCode;
 use std::{env, io};
 
 fn main(rt: HostRuntime) -> ExitCode {
-    let status = match program_words(&rt) {
-        Ok(words) => {
-            let mut input = StdSource::of(rt.stdin());
-            let mut output = StdSink::of(rt.stdout());
-            plain_call(rt.alloc(), &words, &mut input, &mut output)
-        }
-        Err(status) => status,
+    let words = match program_words(&rt) {
+        Ok(words) => words,
+        Err(status) => return ExitCode::from(status.code()),
     };
-    ExitCode::from(status.code())
+
+    // Port 0 gives the numbers below 1,000, and port 1 takes every word. They are boxed here, since a
+    // function that hands boxes out would hide what they are.
+    let mut ports: Vec<Box<dyn Port + Send>> = Vec::new(rt.alloc());
+    let Ok(ramp) = Box::new(rt.alloc(), Ramp::of(1000)) else {
+        return ExitCode::from(Status::NoMemory.code());
+    };
+    if ports.push(ramp).is_err() {
+        return ExitCode::from(Status::NoMemory.code());
+    }
+    let Ok(tally) = Box::new(rt.alloc(), Tally::new()) else {
+        return ExitCode::from(Status::NoMemory.code());
+    };
+    if ports.push(tally).is_err() {
+        return ExitCode::from(Status::NoMemory.code());
+    }
+
+    let mut input = StdSource::of(rt.stdin());
+    let mut output = StdSink::of(rt.stdout());
+    let finish = plain_call(rt.alloc(), &words, &mut input, &mut output, ports);
+    ExitCode::from(finish.status.code())
 }
 
 /// The words behind the program's name. A word that is no text means nothing, so that no word is

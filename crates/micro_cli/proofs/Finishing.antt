@@ -3,11 +3,12 @@ use Rattle.std.proofs.Common.{◌≡◌, ℕ, ◌+◌, ◌<◌, ◌≤◌, List,
 use Rattle.std.specs.Prelude.{◌⊎◌}
 use Rattle.std.proofs.lemmas.Option.{same_Some}
 use Rattle.micro_kit.specs.Streams.{Rose, Gives, Grew, IsSpent}
+use Rattle.ports.specs.declared.told.Told.{Told}
 use Rattle.commands.specs.declared.status.Status.{Status}
 use Rattle.commands.specs.declared.status.Status.TheVariants as status
 use Rattle.commands.specs.declared.task.Task.{Task}
 use Rattle.commands.specs.declared.task.Task.TheVariants.{OfBundle, OfImage, OfJournal}
-use Rattle.commands.specs.Tells.{Fits, IsServed}
+use Rattle.commands.specs.Tells.{Fits, IsServed, IsRefusal}
 use Rattle.micro_cli.specs.declared.command.Silence.TheVariants as silence
 use Rattle.micro_isa.specs.declared.program.Bundle.{Bundle}
 use Rattle.asm_text.specs.Texts.{Spells}
@@ -20,21 +21,21 @@ use Rattle.micro_cli.specs.Silences.{IsSilent}
 use Rattle.micro_cli.specs.Calls.{Outside, Finishes, Serves, HasNoCause, IsServedOrFree}
 
 -- a text that was asked for and written to its end
-pub written_whole : (answer : Status) (words : List (List ℕ)) (o : Outside) (text : List ℕ) → Asks answer words o.left o.left' text → Grew o.wrote text o.wrote' → Finishes answer words o
-written_whole answer words o text asked grew = inl (record { text = text; asked = asked; grew = grew })
+pub written_whole : (answer : Status) (wanted : Option Task) (o : Outside) (text : List ℕ) → Asks answer wanted o.left o.left' o.ports o.ports' text → Grew o.wrote text o.wrote' → Finishes answer wanted o
+written_whole answer wanted o text asked grew = inl (record { text = text; asked = asked; grew = grew })
 
 -- a text that was asked for and written in part
-pub cut_short : (intended : Status) (words : List (List ℕ)) (o : Outside) (text : List ℕ) (taken : ℕ) → Asks intended words o.left o.left' text → Rose o.write_faults o.write_faults' → taken < length text → Grew o.wrote (take taken text) o.wrote' → Finishes status.WriteFault words o
-cut_short intended words o text taken asked rose part grew =
-    inr (inl (record { answered = refl; rose = rose; intended = intended; text = text; asked = asked; taken = taken; part = part; grew = grew }))
+pub cut_short : (intended : Status) (wanted : Option Task) (o : Outside) (text : List ℕ) (taken : ℕ) → Asks intended wanted o.left o.left' o.ports o.ports' text → (IsRefusal intended → o.ports' ≡ o.ports) → Rose o.write_faults o.write_faults' → taken < length text → Grew o.wrote (take taken text) o.wrote' → Finishes status.WriteFault wanted o
+cut_short intended wanted o text taken asked refused rose part grew =
+    inr (inl (record { answered = refl; rose = rose; intended = intended; text = text; asked = asked; refused = refused; taken = taken; part = part; grew = grew }))
 
 -- a read that failed
-pub not_read : (words : List (List ℕ)) (o : Outside) → IsSilent silence.ReadFault words o.left o.left' o.read_faults o.read_faults' → o.wrote' ≡ o.wrote → Finishes status.ReadFault words o
-not_read words o fails silent =
+pub not_read : (wanted : Option Task) (o : Outside) → IsSilent silence.ReadFault wanted o.left o.left' o.read_faults o.read_faults' → o.wrote' ≡ o.wrote → Finishes status.ReadFault wanted o
+not_read wanted o fails silent =
     inr (inr (inl (record { answered = refl; task = fails.0; asked = fails.1; rose = (fails.2).0; taken = (fails.2).1; silent = silent })))
 
-pub no_memory : (words : List (List ℕ)) (o : Outside) → o.wrote' ≡ o.wrote → Finishes status.NoMemory words o
-no_memory words o silent = inr (inr (inr (record { answered = refl; silent = silent })))
+pub no_memory : (wanted : Option Task) (o : Outside) → o.wrote' ≡ o.wrote → Finishes status.NoMemory wanted o
+no_memory wanted o silent = inr (inr (inr (record { answered = refl; silent = silent })))
 
 -- where the source tells its bytes, those that were taken to its end are all of them
 whole_is : (input taken : List ℕ) (left' : Option (List ℕ)) → Gives (Some input) taken left' → IsSpent left' → taken ≡ input
@@ -59,27 +60,27 @@ of_parts task answer bundle_text journal text b spelt fits (inr tells) =
     tells.served (subst (λ x. FitsJournal task x journal) (sym same) fits)
 
 -- what is told of an input that the task serves
-said : (task : Task) (answer : Status) (input text : List ℕ) → Serves task input → Says task answer input text → IsServed answer
-said (OfBundle task) answer input text serves (inl bad) =
+said : (task : Task) (answer : Status) (start now : List Told) (input text : List ℕ) → Serves task input → Says task answer start now input text → IsServed answer
+said (OfBundle task) answer start now input text serves (inl bad) =
     let none = serves.spelt.free in
     let some = bad.found in
     absurd (cc)
-said (OfBundle task) answer input text serves (inr tells) =
+said (OfBundle task) answer start now input text serves (inr tells) =
     let same : tells.bundle ≡ serves.bundle = tells.spelt.said ∙ sym serves.spelt.said in
     tells.served (subst (Fits task) (sym same) serves.fits)
-said (OfImage task) answer input text serves (inl bad) = absurd (bad.unspelled serves.0 serves.1)
-said (OfImage task) answer input text serves (inr tells) = tells.served
-said (OfJournal task) answer input text serves (inl long) = let above = long.above in let short = serves.short in absurd (omega (arith, above, short))
-said (OfJournal task) answer input text serves (inr parts) = of_parts task answer (bundle_part input) (journal_part input) text serves.bundle serves.spelt serves.fits parts.says
+said (OfImage task) answer start now input text serves (inl bad) = absurd (bad.unspelled serves.0 serves.1)
+said (OfImage task) answer start now input text serves (inr tells) = tells.served
+said (OfJournal task) answer start now input text serves (inl long) = let above = long.above in let short = serves.short in absurd (omega (arith, above, short))
+said (OfJournal task) answer start now input text serves (inr parts) = of_parts task answer (bundle_part input) (journal_part input) text serves.bundle serves.spelt serves.fits parts.says
 
 -- what is told of the task that the words ask for
-task_is_served : (answer : Status) (words : List (List ℕ)) (o : Outside) (text : List ℕ) (h : HasNoCause words o) → TellsTask answer words o.left o.left' text → IsServed answer
-task_is_served answer words o text h asks = by asks.tells
+task_is_served : (answer : Status) (wanted : Option Task) (o : Outside) (text : List ℕ) (h : HasNoCause wanted o) → TellsTask answer wanted o.left o.left' o.ports o.ports' text → IsServed answer
+task_is_served answer wanted o text h asks = by asks.tells
   where
     same : asks.task ≡ h.task
     same = same_Some _ _ (sym asks.asked ∙ h.asks)
 
-    by : TellsTooLong asks.task answer o.left o.left' text ⊎ TellsInput asks.task answer o.left o.left' text → IsServed answer
+    by : TellsTooLong asks.task answer o.left o.left' text ⊎ TellsInput asks.task answer o.left o.left' o.ports o.ports' text → IsServed answer
     by (inl long) =
         let more = longer h.input long.taken o.left' (subst (λ l. Gives l long.taken o.left') h.told long.given) in
         let count : length long.taken ≡ limit_of h.task + 1 = subst (λ t. length long.taken ≡ limit_of t + 1) same long.above in
@@ -87,18 +88,18 @@ task_is_served answer words o text h asks = by asks.tells
         absurd (omega (arith, more, count, within))
     by (inr tells) =
         let is : tells.input ≡ h.input = whole_is h.input tells.input o.left' (subst (λ l. Gives l tells.input o.left') h.told (tells.whole).0) (tells.whole).1 in
-        said h.task answer h.input text h.serves (subst (λ t. Says t answer h.input text) same (subst (λ x. Says asks.task answer x text) is tells.says))
+        said h.task answer o.ports o.ports' h.input text h.serves (subst (λ t. Says t answer o.ports o.ports' h.input text) same (subst (λ x. Says asks.task answer o.ports o.ports' x text) is tells.says))
 
 -- where nothing outside gives a cause, the task is served
-pub completes : (answer : Status) (words : List (List ℕ)) (o : Outside) → Finishes answer words o → HasNoCause words o → IsServedOrFree answer
-completes answer words o (inl whole) h = by whole.asked
+pub completes : (answer : Status) (wanted : Option Task) (o : Outside) → Finishes answer wanted o → HasNoCause wanted o → IsServedOrFree answer
+completes answer wanted o (inl whole) h = by whole.asked
   where
-    by : TellsUsage answer words o.left o.left' whole.text ⊎ TellsTask answer words o.left o.left' whole.text → IsServedOrFree answer
+    by : TellsUsage answer wanted o.left o.left' whole.text ⊎ TellsTask answer wanted o.left o.left' o.ports o.ports' whole.text → IsServedOrFree answer
     by (inl usage) =
         let none = usage.meaningless in
         let some = h.asks in
         absurd (cc)
-    by (inr asks) = inl (task_is_served answer words o whole.text h asks)
-completes answer words o (inr (inl cut)) h = absurd (h.writes cut.rose)
-completes answer words o (inr (inr (inl failed))) h = absurd (h.reads failed.rose)
-completes answer words o (inr (inr (inr wanted))) h = inr wanted.answered
+    by (inr asks) = inl (task_is_served answer wanted o whole.text h asks)
+completes answer wanted o (inr (inl cut)) h = absurd (h.writes cut.rose)
+completes answer wanted o (inr (inr (inl failed))) h = absurd (h.reads failed.rose)
+completes answer wanted o (inr (inr (inr free))) h = inr free.answered

@@ -5,6 +5,7 @@ use Rattle.micro_isa.specs.declared.image.Image.{Image}
 use Rattle.micro_kit.specs.Streams.{Gives, IsWhole}
 use Rattle.asm_lines.specs.Faults.{At}
 use Rattle.asm_text.specs.Texts.{text_fault, Spells}
+use Rattle.ports.specs.declared.told.Told.{Told}
 use Rattle.commands.specs.declared.status.Status.{Status}
 use Rattle.commands.specs.declared.status.Status.TheVariants as status
 use Rattle.commands.specs.declared.task.Task.{Task}
@@ -20,29 +21,28 @@ use Rattle.image_load.specs.Loading.{image_fault}
 use Rattle.micro_cli.specs.declared.command.Silence.{Silence}
 use Rattle.micro_cli.specs.declared.command.Silence.TheVariants as silence
 use Rattle.micro_cli.specs.Lines.{usage_line, limit_of, too_long_line, bad_bundle_line, bad_image_line}
-use Rattle.micro_cli.specs.Words.{task_asked}
 use Rattle.commands.specs.declared.task.JournalTask.{JournalTask}
 use Rattle.commands.specs.Journals.{TellsOfJournal, FitsJournal}
 use Rattle.journal_text.specs.Journals.{bundle_part, journal_part}
 use Rattle.micro_isa.specs.declared.limits.TheConstants.{LONGEST_BUNDLE}
-use Rattle.micro_cli.specs.Answers.{SaysOfParts, Says, AsksOfInput, Asks}
+use Rattle.micro_cli.specs.Answers.{SaysOfParts, SaysOfJournal, Says, AsksOfInput, Asks}
 use Rattle.micro_cli.specs.Silences.{FailsToRead, IsSilent}
 
 -- what a task tells of the bundle that the input spells
-pub says_of_bundle : (task : BundleTask) (answer : Status) (input text : List ℕ) (b : Bundle) → Spells input b → TellsOfBundle task answer b text → (Fits task b → IsServed answer) → Says (OfBundle task) answer input text
-says_of_bundle task answer input text b spelt tells served = inr (record { bundle = b; spelt = spelt; tells = tells; served = served })
+pub says_of_bundle : (task : BundleTask) (answer : Status) (start now : List Told) (input text : List ℕ) (b : Bundle) → Spells input b → TellsOfBundle task answer b start now text → (Fits task b → IsServed answer) → Says (OfBundle task) answer start now input text
+says_of_bundle task answer start now input text b spelt tells served = inr (record { bundle = b; spelt = spelt; tells = tells; served = served })
 
 -- the first fault of a text
-pub says_of_text_fault : (task : BundleTask) (answer : Status) (input text : List ℕ) (at : At) → text_fault input ≡ Some at → answer ≡ status.BadBundle → text ≡ bad_bundle_line at → Says (OfBundle task) answer input text
-says_of_text_fault task answer input text at found answered told = inl (record { answered = answered; at = at; found = found; told = told })
+pub says_of_text_fault : (task : BundleTask) (answer : Status) (start now : List Told) (input text : List ℕ) (at : At) → text_fault input ≡ Some at → answer ≡ status.BadBundle → text ≡ bad_bundle_line at → Says (OfBundle task) answer start now input text
+says_of_text_fault task answer start now input text at found answered told = inl (record { answered = answered; at = at; found = found; told = told })
 
 -- what a task tells of the image that the input spells
-pub says_of_image : (task : ImageTask) (answer : Status) (input text : List ℕ) (m : Image) → SpellsImage input m → TellsOfImage task answer m text → IsServed answer → Says (OfImage task) answer input text
-says_of_image task answer input text m spelt tells served = inr (record { image = m; spelt = spelt; tells = tells; served = served })
+pub says_of_image : (task : ImageTask) (answer : Status) (start now : List Told) (input text : List ℕ) (m : Image) → SpellsImage input m → TellsOfImage task answer m start now text → IsServed answer → Says (OfImage task) answer start now input text
+says_of_image task answer start now input text m spelt tells served = inr (record { image = m; spelt = spelt; tells = tells; served = served })
 
 -- the first fault of bytes
-pub says_of_bytes_fault : (task : ImageTask) (answer : Status) (input text : List ℕ) (offset : ℕ) (kind : ImageKind) → Causes (bytes_fault.At offset kind) (image_fault input) → ((m : Image) → SpellsImage input m → ⊥) → answer ≡ status.BadImage → text ≡ bad_image_line offset kind → Says (OfImage task) answer input text
-says_of_bytes_fault task answer input text offset kind found unspelled answered told = inl (record { answered = answered; offset = offset; kind = kind; found = found; told = told; unspelled = unspelled })
+pub says_of_bytes_fault : (task : ImageTask) (answer : Status) (start now : List Told) (input text : List ℕ) (offset : ℕ) (kind : ImageKind) → Causes (bytes_fault.At offset kind) (image_fault input) → ((m : Image) → SpellsImage input m → ⊥) → answer ≡ status.BadImage → text ≡ bad_image_line offset kind → Says (OfImage task) answer start now input text
+says_of_bytes_fault task answer start now input text offset kind found unspelled answered told = inl (record { answered = answered; offset = offset; kind = kind; found = found; told = told; unspelled = unspelled })
 
 -- what a task tells of a bundle's text and a journal
 pub says_of_journal : (task : JournalTask) (answer : Status) (bundle_text journal text : List ℕ) (b : Bundle) → Spells bundle_text b → TellsOfJournal task answer b journal text → (FitsJournal task b journal → IsServed answer) → SaysOfParts task answer bundle_text journal text
@@ -52,34 +52,34 @@ pub says_of_bundle_fault : (task : JournalTask) (answer : Status) (bundle_text j
 says_of_bundle_fault task answer bundle_text journal text at found answered told = inl (record { answered = answered; at = at; found = found; told = told })
 
 -- the parts of an input, the first of which may be too long
-pub says_of_long_part : (task : JournalTask) (answer : Status) (input text part : List ℕ) → part ≡ bundle_part input → LONGEST_BUNDLE < length part → answer ≡ status.TooLong → text ≡ too_long_line LONGEST_BUNDLE → Says (OfJournal task) answer input text
+pub says_of_long_part : (task : JournalTask) (answer : Status) (input text part : List ℕ) → part ≡ bundle_part input → LONGEST_BUNDLE < length part → answer ≡ status.TooLong → text ≡ too_long_line LONGEST_BUNDLE → SaysOfJournal task answer input text
 says_of_long_part task answer input text part is above answered told =
     inl (record { answered = answered; above = subst (λ l. LONGEST_BUNDLE < length l) is above; told = told })
 
-pub says_of_parts : (task : JournalTask) (answer : Status) (input text part journal : List ℕ) → part ≡ bundle_part input → journal ≡ journal_part input → length part ≤ LONGEST_BUNDLE → SaysOfParts task answer part journal text → Says (OfJournal task) answer input text
+pub says_of_parts : (task : JournalTask) (answer : Status) (input text part journal : List ℕ) → part ≡ bundle_part input → journal ≡ journal_part input → length part ≤ LONGEST_BUNDLE → SaysOfParts task answer part journal text → SaysOfJournal task answer input text
 says_of_parts task answer input text part journal is rest short says = inr (record {
   short = subst (λ l. length l ≤ LONGEST_BUNDLE) is short;
   says = subst (λ l. SaysOfParts task answer l (journal_part input) text) is (subst (λ l. SaysOfParts task answer part l text) rest says);
 })
 
 -- what is said of an input that was read to its end is asked for
-pub asks_of_input : (task : Task) (answer : Status) (left left' : Option (List ℕ)) (input text : List ℕ) → IsWhole left input left' (limit_of task) → Says task answer input text → AsksOfInput task answer left left' text
-asks_of_input task answer left left' input text whole says = inr (record { input = input; whole = whole; says = says })
+pub asks_of_input : (task : Task) (answer : Status) (left left' : Option (List ℕ)) (start now : List Told) (input text : List ℕ) → IsWhole left input left' (limit_of task) → Says task answer start now input text → AsksOfInput task answer left left' start now text
+asks_of_input task answer left left' start now input text whole says = inr (record { input = input; whole = whole; says = says })
 
 -- an input of more bytes than the limit
-pub asks_of_length : (task : Task) (answer : Status) (left left' : Option (List ℕ)) (text taken : List ℕ) → Gives left taken left' → length taken ≡ limit_of task + 1 → answer ≡ status.TooLong → text ≡ too_long_line (limit_of task) → AsksOfInput task answer left left' text
-asks_of_length task answer left left' text taken given above answered told =
+pub asks_of_length : (task : Task) (answer : Status) (left left' : Option (List ℕ)) (start now : List Told) (text taken : List ℕ) → Gives left taken left' → length taken ≡ limit_of task + 1 → answer ≡ status.TooLong → text ≡ too_long_line (limit_of task) → AsksOfInput task answer left left' start now text
+asks_of_length task answer left left' start now text taken given above answered told =
     inl (record { answered = answered; taken = taken; given = given; above = above; told = told })
 
--- words that mean nothing
-pub asks_of_usage : (answer : Status) (words : List (List ℕ)) (left : Option (List ℕ)) (text : List ℕ) → task_asked words ≡ None → answer ≡ status.Usage → text ≡ usage_line → Asks answer words left left text
-asks_of_usage answer words left text none answered told =
+-- words that ask for no task
+pub asks_of_usage : (answer : Status) (wanted : Option Task) (left : Option (List ℕ)) (start now : List Told) (text : List ℕ) → wanted ≡ None → answer ≡ status.Usage → text ≡ usage_line → Asks answer wanted left left start now text
+asks_of_usage answer wanted left start now text none answered told =
     inl (record { answered = answered; meaningless = none; untouched = refl; told = told })
 
 -- words that ask for a task
-pub asks_of_task : (answer : Status) (words : List (List ℕ)) (left left' : Option (List ℕ)) (text : List ℕ) (task : Task) → task_asked words ≡ Some task → AsksOfInput task answer left left' text → Asks answer words left left' text
-asks_of_task answer words left left' text task asked tells = inr (record { task = task; asked = asked; tells = tells })
+pub asks_of_task : (answer : Status) (wanted : Option Task) (left left' : Option (List ℕ)) (start now : List Told) (text : List ℕ) (task : Task) → wanted ≡ Some task → AsksOfInput task answer left left' start now text → Asks answer wanted left left' start now text
+asks_of_task answer wanted left left' start now text task asked tells = inr (record { task = task; asked = asked; tells = tells })
 
-pub silent_of_words : (why : Silence) (words : List (List ℕ)) (left left' : Option (List ℕ)) (faults faults' : ℕ) (task : Task) → task_asked words ≡ Some task → FailsToRead task why left left' faults faults' → IsSilent why words left left' faults faults'
-silent_of_words silence.ReadFault words left left' faults faults' task asked fails = (task, asked, fails)
-silent_of_words silence.NoMemory words left left' faults faults' task asked fails = tt
+pub silent_of_words : (why : Silence) (wanted : Option Task) (left left' : Option (List ℕ)) (faults faults' : ℕ) (task : Task) → wanted ≡ Some task → FailsToRead task why left left' faults faults' → IsSilent why wanted left left' faults faults'
+silent_of_words silence.ReadFault wanted left left' faults faults' task asked fails = (task, asked, fails)
+silent_of_words silence.NoMemory wanted left left' faults faults' task asked fails = tt

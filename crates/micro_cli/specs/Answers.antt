@@ -10,6 +10,7 @@ use Rattle.image_load.specs.declared.fault.ImageFault.TheVariants as bytes_fault
 use Rattle.image_load.specs.Faults.{Causes}
 use Rattle.image_load.specs.Spelling.{Spells as SpellsImage}
 use Rattle.image_load.specs.Loading.{image_fault}
+use Rattle.ports.specs.declared.told.Told.{Told}
 use Rattle.commands.specs.declared.status.Status.{Status}
 use Rattle.commands.specs.declared.status.Status.TheVariants as status
 use Rattle.commands.specs.declared.task.Task.{Task}
@@ -22,7 +23,6 @@ use Rattle.journal_text.specs.Journals.{bundle_part, journal_part}
 use Rattle.micro_isa.specs.declared.limits.TheConstants.{LONGEST_BUNDLE}
 use Rattle.commands.specs.Tells.{TellsOfBundle, TellsOfImage, Fits, IsServed}
 use Rattle.micro_cli.specs.Lines.{usage_line, limit_of, too_long_line, bad_bundle_line, bad_image_line}
-use Rattle.micro_cli.specs.Words.{task_asked}
 
 -- the text has a first fault, and the line tells it
 pub record TellsTextFault (answer : Status) (input text : List ℕ) : Type 0 where
@@ -31,11 +31,11 @@ pub record TellsTextFault (answer : Status) (input text : List ℕ) : Type 0 whe
   pub found : text_fault input ≡ Some at
   pub told : text ≡ bad_bundle_line at
 
--- the input spells a bundle, and the text is what the task tells of it; one that fits is served
-pub record TellsBundle (task : BundleTask) (answer : Status) (input text : List ℕ) : Type 0 where
+-- the input spells a bundle, and the text is what the task tells of it, with these ports; one that fits is served
+pub record TellsBundle (task : BundleTask) (answer : Status) (start now : List Told) (input text : List ℕ) : Type 0 where
   pub bundle : Bundle
   pub spelt : Spells input bundle
-  pub tells : TellsOfBundle task answer bundle text
+  pub tells : TellsOfBundle task answer bundle start now text
   pub served : Fits task bundle → IsServed answer
 
 -- the bytes have a first fault, and the line tells it: they spell no image
@@ -47,11 +47,11 @@ pub record TellsBytesFault (answer : Status) (input text : List ℕ) : Type 0 wh
   pub told : text ≡ bad_image_line offset kind
   pub unspelled : (m : Image) → SpellsImage input m → ⊥
 
--- the input spells an image, and the text is what the task tells of it
-pub record TellsImage (task : ImageTask) (answer : Status) (input text : List ℕ) : Type 0 where
+-- the input spells an image, and the text is what the task tells of it, with these ports
+pub record TellsImage (task : ImageTask) (answer : Status) (start now : List Told) (input text : List ℕ) : Type 0 where
   pub image : Image
   pub spelt : SpellsImage input image
-  pub tells : TellsOfImage task answer image text
+  pub tells : TellsOfImage task answer image start now text
   pub served : IsServed answer
 
 -- the part of the input that is a bundle has more bytes than a bundle may have
@@ -77,17 +77,21 @@ pub record TellsParts (task : JournalTask) (answer : Status) (input text : List 
   pub short : length (bundle_part input) ≤ LONGEST_BUNDLE
   pub says : SaysOfParts task answer (bundle_part input) (journal_part input) text
 
--- what a task asks to be written for an input
-abbrev pub Says : Task → Status → List ℕ → List ℕ → Type 0
-Says (OfBundle task) answer input text = TellsTextFault answer input text ⊎ TellsBundle task answer input text
-Says (OfImage task) answer input text = TellsBytesFault answer input text ⊎ TellsImage task answer input text
-Says (OfJournal task) answer input text = TellsLongPart answer input text ⊎ TellsParts task answer input text
+-- what a task asks to be written for an input of a bundle and a journal
+abbrev pub SaysOfJournal : JournalTask → Status → List ℕ → List ℕ → Type 0
+SaysOfJournal task answer input text = TellsLongPart answer input text ⊎ TellsParts task answer input text
+
+-- what a task asks to be written for an input, and what the ports told before it and tell after it
+abbrev pub Says : Task → Status → List Told → List Told → List ℕ → List ℕ → Type 0
+Says (OfBundle task) answer start now input text = TellsTextFault answer input text ⊎ TellsBundle task answer start now input text
+Says (OfImage task) answer start now input text = TellsBytesFault answer input text ⊎ TellsImage task answer start now input text
+Says (OfJournal task) answer start now input text = SaysOfJournal task answer input text
 
 -- the input was read to its end, and this is asked to be written for it
-pub record TellsInput (task : Task) (answer : Status) (left left' : Option (List ℕ)) (text : List ℕ) : Type 0 where
+pub record TellsInput (task : Task) (answer : Status) (left left' : Option (List ℕ)) (start now : List Told) (text : List ℕ) : Type 0 where
   pub input : List ℕ
   pub whole : IsWhole left input left' (limit_of task)
-  pub says : Says task answer input text
+  pub says : Says task answer start now input text
 
 -- more bytes than the limit were taken: exactly one more
 pub record TellsTooLong (task : Task) (answer : Status) (left left' : Option (List ℕ)) (text : List ℕ) : Type 0 where
@@ -97,22 +101,24 @@ pub record TellsTooLong (task : Task) (answer : Status) (left left' : Option (Li
   pub above : length taken ≡ limit_of task + 1
   pub told : text ≡ too_long_line (limit_of task)
 
-abbrev pub AsksOfInput : Task → Status → Option (List ℕ) → Option (List ℕ) → List ℕ → Type 0
-AsksOfInput task answer left left' text = TellsTooLong task answer left left' text ⊎ TellsInput task answer left left' text
+abbrev pub AsksOfInput : Task → Status → Option (List ℕ) → Option (List ℕ) → List Told → List Told → List ℕ → Type 0
+AsksOfInput task answer left left' start now text =
+    TellsTooLong task answer left left' text ⊎ TellsInput task answer left left' start now text
 
--- the words mean nothing, and nothing was read
-pub record TellsUsage (answer : Status) (words : List (List ℕ)) (left left' : Option (List ℕ)) (text : List ℕ) : Type 0 where
+-- the words ask for no task, and nothing was read
+pub record TellsUsage (answer : Status) (wanted : Option Task) (left left' : Option (List ℕ)) (text : List ℕ) : Type 0 where
   pub answered : answer ≡ status.Usage
-  pub meaningless : task_asked words ≡ None
+  pub meaningless : wanted ≡ None
   pub untouched : left' ≡ left
   pub told : text ≡ usage_line
 
 -- the words ask for a task, and this is what it asks to be written
-pub record TellsTask (answer : Status) (words : List (List ℕ)) (left left' : Option (List ℕ)) (text : List ℕ) : Type 0 where
+pub record TellsTask (answer : Status) (wanted : Option Task) (left left' : Option (List ℕ)) (start now : List Told) (text : List ℕ) : Type 0 where
   pub task : Task
-  pub asked : task_asked words ≡ Some task
-  pub tells : AsksOfInput task answer left left' text
+  pub asked : wanted ≡ Some task
+  pub tells : AsksOfInput task answer left left' start now text
 
--- what a call asks to be written, from its words and the bytes that its input had left before and has left after
-abbrev pub Asks : Status → List (List ℕ) → Option (List ℕ) → Option (List ℕ) → List ℕ → Type 0
-Asks answer words left left' text = TellsUsage answer words left left' text ⊎ TellsTask answer words left left' text
+-- what a call asks to be written, from the task that its words ask for, the bytes that its input had left before and has left
+-- after, and what the ports told before and tell after
+abbrev pub Asks : Status → Option Task → Option (List ℕ) → Option (List ℕ) → List Told → List Told → List ℕ → Type 0
+Asks answer wanted left left' start now text = TellsUsage answer wanted left left' text ⊎ TellsTask answer wanted left left' start now text

@@ -1,10 +1,11 @@
 -- What a call leaves outside, by its status.
-use Rattle.std.specs.Prelude.{◌≡◌, ℕ, ◌<◌, ◌≤◌, ◌⊎◌, List, length, take, Option, Some}
+use Rattle.std.specs.Prelude.{◌≡◌, ℕ, ◌<◌, ◌≤◌, ◌⊎◌, List, length, take, map, false, Option, Some, None}
 use Rattle.micro_isa.specs.declared.program.Bundle.{Bundle}
 use Rattle.micro_isa.specs.declared.image.Image.{Image}
 use Rattle.micro_kit.specs.Streams.{Rose, Grew, GivesAtMost}
 use Rattle.asm_text.specs.Texts.{Spells}
 use Rattle.image_load.specs.Spelling.{Spells as SpellsImage}
+use Rattle.ports.specs.declared.told.Told.{Told}
 use Rattle.commands.specs.declared.status.Status.{Status}
 use Rattle.commands.specs.declared.status.Status.TheVariants as status
 use Rattle.commands.specs.declared.task.Task.{Task}
@@ -14,13 +15,12 @@ use Rattle.commands.specs.declared.task.JournalTask.{JournalTask}
 use Rattle.commands.specs.Journals.{FitsJournal}
 use Rattle.journal_text.specs.Journals.{bundle_part, journal_part}
 use Rattle.micro_isa.specs.declared.limits.TheConstants.{LONGEST_BUNDLE}
-use Rattle.commands.specs.Tells.{Fits, IsServed}
+use Rattle.commands.specs.Tells.{Fits, IsServed, IsRefusal, runs_image}
 use Rattle.micro_cli.specs.Lines.{limit_of}
-use Rattle.micro_cli.specs.Words.{task_asked}
 use Rattle.micro_cli.specs.Answers.{Asks}
 
 -- what a call finds and leaves outside: the bytes that the source has left and the bytes that the sink took, where told,
--- and how often each failed
+-- how often each failed, and what the ports tell
 pub record Outside : Type 0 where
   pub left : Option (List ℕ)
   pub left' : Option (List ℕ)
@@ -30,10 +30,12 @@ pub record Outside : Type 0 where
   pub wrote' : Option (List ℕ)
   pub write_faults : ℕ
   pub write_faults' : ℕ
+  pub ports : List Told
+  pub ports' : List Told
 
--- that of a source and a sink, before a call and after it
-abbrev pub outside : {I O : Type 0} → (I → Option (List ℕ)) → (I → ℕ) → (O → Option (List ℕ)) → (O → ℕ) → I → I → O → O → Outside
-outside left read_faults wrote write_faults input input' output output' = record {
+-- that of a source, a sink and ports, before a call and after it
+abbrev pub outside : {I O P : Type 0} → (I → Option (List ℕ)) → (I → ℕ) → (O → Option (List ℕ)) → (O → ℕ) → (P → Told) → I → I → O → O → List P → List P → Outside
+outside left read_faults wrote write_faults tells input input' output output' ports ports' = record {
   left = left input;
   left' = left input';
   read_faults = read_faults input;
@@ -42,31 +44,35 @@ outside left read_faults wrote write_faults input input' output output' = record
   wrote' = wrote output';
   write_faults = write_faults output;
   write_faults' = write_faults output';
+  ports = map tells ports;
+  ports' = map tells ports';
 }
 
 -- the whole text that was asked for was written
-pub record WroteAll (answer : Status) (words : List (List ℕ)) (o : Outside) : Type 0 where
+pub record WroteAll (answer : Status) (wanted : Option Task) (o : Outside) : Type 0 where
   pub text : List ℕ
-  pub asked : Asks answer words o.left o.left' text
+  pub asked : Asks answer wanted o.left o.left' o.ports o.ports' text
   pub grew : Grew o.wrote text o.wrote'
 
--- a write failed, the sink's faults having risen in this call; a part of the text that was asked for was written
-pub record WasCutShort (answer : Status) (words : List (List ℕ)) (o : Outside) : Type 0 where
+-- a write failed, the sink's faults having risen in this call; a part of the text that was asked for was written. Where that is
+-- the line of a refusal, the ports are as they were
+pub record WasCutShort (answer : Status) (wanted : Option Task) (o : Outside) : Type 0 where
   pub answered : answer ≡ status.WriteFault
   pub rose : Rose o.write_faults o.write_faults'
   pub intended : Status
   pub text : List ℕ
-  pub asked : Asks intended words o.left o.left' text
+  pub asked : Asks intended wanted o.left o.left' o.ports o.ports' text
+  pub refused : IsRefusal intended → o.ports' ≡ o.ports
   pub taken : ℕ
   pub part : taken < length text
   pub grew : Grew o.wrote (take taken text) o.wrote'
 
 -- the words ask for a task; a read failed, the source's faults having risen in this call, before more bytes than the limit
 -- were taken; nothing was written
-pub record CouldNotRead (answer : Status) (words : List (List ℕ)) (o : Outside) : Type 0 where
+pub record CouldNotRead (answer : Status) (wanted : Option Task) (o : Outside) : Type 0 where
   pub answered : answer ≡ status.ReadFault
   pub task : Task
-  pub asked : task_asked words ≡ Some task
+  pub asked : wanted ≡ Some task
   pub rose : Rose o.read_faults o.read_faults'
   pub taken : GivesAtMost o.left (limit_of task) o.left'
   pub silent : o.wrote' ≡ o.wrote
@@ -76,10 +82,19 @@ pub record WantedMemory (answer : Status) (o : Outside) : Type 0 where
   pub answered : answer ≡ status.NoMemory
   pub silent : o.wrote' ≡ o.wrote
 
--- what a call with this status leaves
-abbrev pub Finishes : Status → List (List ℕ) → Outside → Type 0
-Finishes answer words o =
-    WroteAll answer words o ⊎ (WasCutShort answer words o ⊎ (CouldNotRead answer words o ⊎ WantedMemory answer o))
+-- what a call with this status leaves, whose words ask for this task
+abbrev pub Finishes : Status → Option Task → Outside → Type 0
+Finishes answer wanted o =
+    WroteAll answer wanted o ⊎ (WasCutShort answer wanted o ⊎ (CouldNotRead answer wanted o ⊎ WantedMemory answer o))
+
+-- the words ask for no run of an image
+abbrev pub IsAside : Option Task → Type 0
+IsAside None = Unit {0}
+IsAside (Some task) = runs_image task ≡ false
+
+-- no port is asked or handed anything: the words ask for no run of an image, or the call was refused
+abbrev pub LeavesPorts : Option Task → Status → Type 0
+LeavesPorts wanted answer = IsAside wanted ⊎ IsRefusal answer
 
 -- the input spells a bundle that the task takes
 pub record SpellsFitting (task : BundleTask) (input : List ℕ) : Type 0 where
@@ -103,9 +118,9 @@ Serves (OfJournal task) input = SpellsJournal task input
 
 -- nothing outside gives a cause for a refusal: the words ask for a task, no read or write fails, and the input is within
 -- the task's limit and one that it serves
-pub record HasNoCause (words : List (List ℕ)) (o : Outside) : Type 0 where
+pub record HasNoCause (wanted : Option Task) (o : Outside) : Type 0 where
   pub task : Task
-  pub asks : task_asked words ≡ Some task
+  pub asks : wanted ≡ Some task
   pub reads : Rose o.read_faults o.read_faults' → ⊥
   pub writes : Rose o.write_faults o.write_faults' → ⊥
   pub input : List ℕ

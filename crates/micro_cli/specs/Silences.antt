@@ -5,7 +5,6 @@ use Rattle.commands.specs.declared.task.Task.{Task}
 use Rattle.micro_cli.specs.declared.command.Silence.{Silence}
 use Rattle.micro_cli.specs.declared.command.Silence.TheVariants as silence
 use Rattle.micro_cli.specs.Lines.{limit_of}
-use Rattle.micro_cli.specs.Words.{task_asked}
 
 -- a read failed, before more bytes than the task's limit were taken; or memory was wanting
 abbrev pub FailsToRead : Task → Silence → Option (List ℕ) → Option (List ℕ) → ℕ → ℕ → Type 0
@@ -13,7 +12,7 @@ FailsToRead task silence.ReadFault left left' faults faults' = Rose faults fault
 FailsToRead task silence.NoMemory left left' faults faults' = Unit {0}
 
 -- the same, the words asking for a task
-abbrev pub IsSilent : Silence → List (List ℕ) → Option (List ℕ) → Option (List ℕ) → ℕ → ℕ → Type 0
-IsSilent silence.ReadFault words left left' faults faults' =
-    (task : Task) × (task_asked words ≡ Some task) × FailsToRead task silence.ReadFault left left' faults faults'
-IsSilent silence.NoMemory words left left' faults faults' = Unit {0}
+abbrev pub IsSilent : Silence → Option Task → Option (List ℕ) → Option (List ℕ) → ℕ → ℕ → Type 0
+IsSilent silence.ReadFault wanted left left' faults faults' =
+    (task : Task) × (wanted ≡ Some task) × FailsToRead task silence.ReadFault left left' faults faults'
+IsSilent silence.NoMemory wanted left left' faults faults' = Unit {0}

@@ -1,31 +1,39 @@
 -- The task that the words of the command line ask for.
-use Rattle.std.specs.Prelude.{List, ℕ, Option, Some, None, option_and_then}
+use Rattle.std.specs.Prelude.{List, ℕ, Bool, true, false, Option, Some, None, option_map, option_and_then}
 use Rattle.command_words.specs.declared.meaning.Meaning.{Meaning}
 use Rattle.command_words.specs.declared.meaning.Verb.{Verb}
 use Rattle.command_words.specs.declared.meaning.Verb.TheVariants as verb
 use Rattle.command_words.specs.declared.meaning.Turns.{Turns}
 use Rattle.command_words.specs.declared.meaning.Turns.TheVariants as turns
 use Rattle.command_words.specs.Meaning.{words_meaning}
+use Rattle.commands.specs.declared.task.Order.{Order}
+use Rattle.commands.specs.declared.task.Order.TheVariants as order
 use Rattle.commands.specs.declared.task.Task.{Task}
 use Rattle.commands.specs.declared.task.Task.TheVariants.{OfBundle, OfImage, OfJournal}
 use Rattle.commands.specs.declared.task.BundleTask.TheVariants as bundle
 use Rattle.commands.specs.declared.task.ImageTask.TheVariants as image
 use Rattle.commands.specs.declared.task.JournalTask.TheVariants as journal
 
--- the task of a command; threads and generated bundles are still to come
-abbrev pub task_for : Verb → Turns → ℕ → Option Task
-task_for verb.Run turns.Round steps = Some (OfBundle (bundle.Run steps))
-task_for verb.Source turns.Round steps = Some (OfBundle (bundle.Source steps))
-task_for verb.Build turns.Round steps = Some (OfBundle bundle.Build)
-task_for verb.Fmt turns.Round steps = Some (OfBundle bundle.Format)
-task_for verb.Check turns.Round steps = Some (OfBundle bundle.Check)
-task_for verb.Exec turns.Round steps = Some (OfImage (image.Exec steps))
-task_for verb.Replay turns.Round steps = Some (OfJournal (journal.Replay steps))
-task_for _ _ steps = None
+-- the order in which the contexts have their turns; threads only where they are served
+abbrev pub order_for : Bool → Turns → Option Order
+order_for threads turns.Round = Some order.Round
+order_for true turns.Threads = Some order.Threads
+order_for false turns.Threads = None
 
-abbrev pub task_of : Meaning → Option Task
-task_of m = task_for m.verb m.turns m.steps
+-- the task of a command; generated bundles are still to come
+abbrev pub task_for : Bool → Verb → Turns → ℕ → Option Task
+task_for threads verb.Run t steps = option_map (λ o. OfBundle (bundle.Run steps o)) (order_for threads t)
+task_for threads verb.Exec t steps = option_map (λ o. OfImage (image.Exec steps o)) (order_for threads t)
+task_for threads verb.Source turns.Round steps = Some (OfBundle (bundle.Source steps))
+task_for threads verb.Build turns.Round steps = Some (OfBundle bundle.Build)
+task_for threads verb.Fmt turns.Round steps = Some (OfBundle bundle.Format)
+task_for threads verb.Check turns.Round steps = Some (OfBundle bundle.Check)
+task_for threads verb.Replay turns.Round steps = Some (OfJournal (journal.Replay steps))
+task_for threads _ _ steps = None
+
+abbrev pub task_of : Bool → Meaning → Option Task
+task_of threads m = task_for threads m.verb m.turns m.steps
 
 -- the task that the words ask for; none where they mean nothing
-abbrev pub task_asked : List (List ℕ) → Option Task
-task_asked words = option_and_then task_of (words_meaning words)
+abbrev pub task_asked : Bool → List (List ℕ) → Option Task
+task_asked threads words = option_and_then (task_of threads) (words_meaning words)

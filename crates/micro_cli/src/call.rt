@@ -1,44 +1,104 @@
-ghost use Rattle.std.specs.Prelude.{map, string_bytes};
-ghost use Rattle.micro_cli.specs.Calls.{Finishes, HasNoCause, IsServedOrFree, outside};
+ghost use Rattle.std.specs.Prelude.{◌≡◌, ◌≤◌, IfSome, false, length, map, string_bytes};
+ghost use Rattle.commands.specs.Tells.{IsBounded, RunsBy};
+ghost use Rattle.micro_cli.specs.Words.{task_asked};
+ghost use Rattle.micro_cli.specs.Calls.{Finishes, HasNoCause, IsServedOrFree, LeavesPorts, outside};
 
-use crate::command::{Silence, reply_to_words};
-use commands::Status;
+use crate::command::{Silence, reply_to_task};
+use crate::words::task_asked;
+use commands::{Status, Task};
+use context_runner::{InRounds, Runner};
+use micro_isa::{MOST_PORTS, NoMemory};
 use micro_kit::{Sink, Source, write_all};
+use ports::Port;
 use std::alloc::Global;
 
-/// What the program does with the words of its command line: it reads the input, does what the
-/// words ask for with the bundle that it spells, and writes the answer or the line of a refusal.
-/// `docs/FORMATS.md` has the texts, and `docs/DEFINITIONS.md` what each status says.
-#[tactic(auto, using(crate::proofs::Finishing::completes))]
+/// What a call came to: its status, and the ports that were handed in, in their order, as the call
+/// leaves them.
+#[derive(Drop)]
+pub struct Finish {
+    pub status: Status,
+    pub ports: Vec<Box<dyn Port + Send>>,
+}
+
+/// What the program does with the words of its command line where the contexts have their turns in
+/// round order: it reads the input, does what the words ask for with the bundle or image that it
+/// spells, and writes the answer or the line of a refusal. Only the run of an image asks the ports
+/// or hands them anything. `docs/FORMATS.md` has the texts, and `docs/DEFINITIONS.md` what each
+/// status says.
+#[tactic(auto, using(crate::proofs::Finishing::no_memory))]
 pub fn plain_call<I: Source, O: Sink>(
     alloc: Global,
     words: &[String],
     input: &mut I,
     output: &mut O,
-) -> Status
-    ensures finishes { Finishes result (map string_bytes words.now) (outside I.left I.faults O.wrote O.faults input.old input.new output.old output.new) }
+    ports: Vec<Box<dyn Port + Send>>,
+) -> Finish
+    requires few { length ports.items ≤ MOST_PORTS }
+    ensures finishes { Finishes result.status (task_asked false (map string_bytes words.now)) (outside I.left I.faults O.wrote O.faults ⟦<Box<dyn Port + Send> as Port>⟧.tells input.old input.new output.old output.new ports.items result.ports.items) }
 
     // Where nothing outside gives a cause for a refusal, the task is served and its whole text written.
-    ensures complete { HasNoCause (map string_bytes words.now) (outside I.left I.faults O.wrote O.faults input.old input.new output.old output.new) → IsServedOrFree result }
+    ensures complete { HasNoCause (task_asked false (map string_bytes words.now)) (outside I.left I.faults O.wrote O.faults ⟦<Box<dyn Port + Send> as Port>⟧.tells input.old input.new output.old output.new ports.items result.ports.items) → IsServedOrFree result.status }
+    ensures as_many { length result.ports.items ≡ length ports.items }
+
+    // What runs no image, and what is refused, leaves each port as it was.
+    ensures untouched { LeavesPorts (task_asked false (map string_bytes words.now)) result.status → result.ports ≡ ports }
 {
-    finish(alloc, words, input, output)
+    match task_asked(alloc, words, false) {
+        Ok(wanted) => {
+            let (status, ports) = call(alloc, wanted, input, output, ports, &InRounds);
+            Finish { status, ports }
+        }
+        Err(NoMemory) => Finish {
+            status: Status::NoMemory,
+            ports,
+        },
+    }
+}
+
+/// The same for the task that the words ask for, with a runner of its order.
+
+fn call<I: Source, O: Sink, P: Port + Send, X: Runner>(
+    alloc: Global,
+    wanted: Option<Task>,
+    input: &mut I,
+    output: &mut O,
+    ports: Vec<P>,
+    runner: &X,
+) -> (Status, Vec<P>)
+    requires bounded { IfSome wanted IsBounded }
+    requires order { IfSome wanted (RunsBy X.in_rounds) }
+    requires few { length ports.items ≤ MOST_PORTS }
+    ensures finishes { Finishes result.0 wanted (outside I.left I.faults O.wrote O.faults P.tells input.old input.new output.old output.new ports.items result.1.items) }
+    ensures complete { HasNoCause wanted (outside I.left I.faults O.wrote O.faults P.tells input.old input.new output.old output.new ports.items result.1.items) → IsServedOrFree result.0 }
+    ensures as_many { length result.1.items ≡ length ports.items }
+    ensures untouched { LeavesPorts wanted result.0 → result.1 ≡ ports }
+{
+    serve(alloc, wanted, input, output, ports, runner)
 }
 
 #[tactic(auto, using(crate::proofs::Finishing::written_whole, crate::proofs::Finishing::cut_short, crate::proofs::Finishing::not_read, crate::proofs::Finishing::no_memory))]
-fn finish<I: Source, O: Sink>(
+fn serve<I: Source, O: Sink, P: Port + Send, X: Runner>(
     alloc: Global,
-    words: &[String],
+    wanted: Option<Task>,
     input: &mut I,
     output: &mut O,
-) -> Status
-    ensures { Finishes result (map string_bytes words.now) (outside I.left I.faults O.wrote O.faults input.old input.new output.old output.new) }
+    ports: Vec<P>,
+    runner: &X,
+) -> (Status, Vec<P>)
+    requires bounded { IfSome wanted IsBounded }
+    requires order { IfSome wanted (RunsBy X.in_rounds) }
+    requires few { length ports.items ≤ MOST_PORTS }
+    ensures finishes { Finishes result.0 wanted (outside I.left I.faults O.wrote O.faults P.tells input.old input.new output.old output.new ports.items result.1.items) }
+    ensures as_many { length result.1.items ≡ length ports.items }
+    ensures untouched { LeavesPorts wanted result.0 → result.1 ≡ ports }
 {
-    match reply_to_words(alloc, words, input) {
+    let (reply, ports) = reply_to_task(alloc, wanted, input, ports, runner);
+    match reply {
         Ok(reply) => match write_all(output, &reply.text) {
-            Ok(()) => reply.status,
-            Err(_) => Status::WriteFault,
+            Ok(()) => (reply.status, ports),
+            Err(_) => (Status::WriteFault, ports),
         },
-        Err(Silence::ReadFault) => Status::ReadFault,
-        Err(Silence::NoMemory) => Status::NoMemory,
+        Err(Silence::ReadFault) => (Status::ReadFault, ports),
+        Err(Silence::NoMemory) => (Status::NoMemory, ports),
     }
 }

@@ -1,9 +1,11 @@
-//! What a call asks to be written: from the words and the input to a status and a text.
+//! What a call asks to be written: from the task and the input to a status and a text.
 
-ghost use Rattle.std.specs.Prelude.{◌≡◌, ◌≤◌, IfOk, IfErr, length, map, string_bytes};
-ghost use Rattle.commands.specs.Tells.{IsBounded};
+ghost use Rattle.std.specs.Prelude.{◌≡◌, ◌≤◌, IfOk, IfErr, IfSome, false, length, map};
+ghost use Rattle.commands.specs.Tells.{IsBounded, RunsBy, IsRefusal, runs_image};
 ghost use Rattle.commands.specs.declared.status.Status.TheVariants as status;
+ghost use Rattle.micro_cli.specs.declared.command.Silence.TheVariants as silence;
 ghost use Rattle.micro_cli.specs.Answers.{Asks, AsksOfInput, Says};
+ghost use Rattle.micro_cli.specs.Calls.{IsAside};
 ghost use Rattle.micro_cli.specs.Silences.{FailsToRead, IsSilent};
 ghost use Rattle.micro_cli.specs.Lines.{usage_line, limit_of, too_long_line};
 
@@ -11,10 +13,11 @@ use crate::bundle_replies::reply_to_text;
 use crate::image_replies::reply_to_image;
 use crate::journal_replies::reply_to_journal;
 use crate::lines::{limit_of, too_long, usage_line};
-use crate::words::task_asked;
 use commands::{Reply, Status, Task};
-use micro_isa::{LONGEST_IMAGE, NoMemory};
+use context_runner::Runner;
+use micro_isa::{LONGEST_IMAGE, MOST_PORTS, NoMemory};
 use micro_kit::{ReadFault, Source, read_all};
+use ports::Port;
 use std::alloc::Global;
 
 /// Why nothing is to be written.
@@ -24,26 +27,31 @@ pub(crate) enum Silence {
     NoMemory,
 }
 
-/// The reply to these words and this input.
+/// The reply to the task that the words ask for and to the input, and the ports.
 #[tactic(auto, using(crate::proofs::Replies::asks_of_usage, crate::proofs::Replies::asks_of_task, crate::proofs::Replies::silent_of_words))]
-pub(crate) fn reply_to_words<I: Source>(
+pub(crate) fn reply_to_task<I: Source, P: Port + Send, X: Runner>(
     alloc: Global,
-    words: &[String],
+    wanted: Option<Task>,
     input: &mut I,
-) -> Result<Reply, Silence>
-    ensures asks { IfOk result (λ r. Asks r.status (map string_bytes words.now) (I.left input.old) (I.left input.new) r.text.items) }
-    ensures silent { IfErr result (λ why. IsSilent why (map string_bytes words.now) (I.left input.old) (I.left input.new) (I.faults input.old) (I.faults input.new)) }
+    ports: Vec<P>,
+    runner: &X,
+) -> (Result<Reply, Silence>, Vec<P>)
+    requires bounded { IfSome wanted IsBounded }
+    requires order { IfSome wanted (RunsBy X.in_rounds) }
+    requires few { length ports.items ≤ MOST_PORTS }
+    ensures asks { IfOk result.0 (λ r. Asks r.status wanted (I.left input.old) (I.left input.new) (map P.tells ports.items) (map P.tells result.1.items) r.text.items) }
+    ensures silent { IfErr result.0 (λ why. IsSilent why wanted (I.left input.old) (I.left input.new) (I.faults input.old) (I.faults input.new)) }
+    ensures as_many { length result.1.items ≡ length ports.items }
+    ensures aside { IsAside wanted → result.1 ≡ ports }
+    ensures refused { IfOk result.0 (λ r. IsRefusal r.status → result.1 ≡ ports) }
+    ensures unread { IfErr result.0 (λ why. why ≡ silence.ReadFault → result.1 ≡ ports) }
 {
-    match task_asked(alloc, words) {
-        Ok(Some(task)) => match reply_to_input(alloc, task, input) {
-            Ok(reply) => Ok(reply),
-            Err(why) => Err(why),
+    match wanted {
+        Some(task) => reply_to_input(alloc, task, input, ports, runner),
+        None => match usage(alloc) {
+            Ok(reply) => (Ok(reply), ports),
+            Err(NoMemory) => (Err(Silence::NoMemory), ports),
         },
-        Ok(None) => match usage(alloc) {
-            Ok(reply) => Ok(reply),
-            Err(NoMemory) => Err(Silence::NoMemory),
-        },
-        Err(NoMemory) => Err(Silence::NoMemory),
     }
 }
 
@@ -61,35 +69,61 @@ fn usage(alloc: Global) -> Result<Reply, NoMemory>
 
 /// Reads the input to its end and replies to it.
 #[tactic(auto, using(crate::proofs::Replies::asks_of_input, crate::proofs::Replies::asks_of_length))]
-fn reply_to_input<I: Source>(alloc: Global, task: Task, input: &mut I) -> Result<Reply, Silence>
-    requires { IsBounded task }
-    ensures asks { IfOk result (λ r. AsksOfInput task r.status (I.left input.old) (I.left input.new) r.text.items) }
-    ensures silent { IfErr result (λ why. FailsToRead task why (I.left input.old) (I.left input.new) (I.faults input.old) (I.faults input.new)) }
+fn reply_to_input<I: Source, P: Port + Send, X: Runner>(
+    alloc: Global,
+    task: Task,
+    input: &mut I,
+    ports: Vec<P>,
+    runner: &X,
+) -> (Result<Reply, Silence>, Vec<P>)
+    requires bounded { IsBounded task }
+    requires order { RunsBy X.in_rounds task }
+    requires few { length ports.items ≤ MOST_PORTS }
+    ensures asks { IfOk result.0 (λ r. AsksOfInput task r.status (I.left input.old) (I.left input.new) (map P.tells ports.items) (map P.tells result.1.items) r.text.items) }
+    ensures silent { IfErr result.0 (λ why. FailsToRead task why (I.left input.old) (I.left input.new) (I.faults input.old) (I.faults input.new)) }
+    ensures as_many { length result.1.items ≡ length ports.items }
+    ensures aside { runs_image task ≡ false → result.1 ≡ ports }
+    ensures refused { IfOk result.0 (λ r. IsRefusal r.status → result.1 ≡ ports) }
+    ensures unread { IfErr result.0 (λ why. why ≡ silence.ReadFault → result.1 ≡ ports) }
 {
     let limit = limit_of(task);
     match read_all(alloc, input, limit) {
-        Ok(bytes) => match reply_to_bytes(alloc, task, bytes) {
-            Ok(reply) => Ok(reply),
-            Err(NoMemory) => Err(Silence::NoMemory),
-        },
-        Err(ReadFault::Failed) => Err(Silence::ReadFault),
+        Ok(bytes) => {
+            let (reply, ports) = reply_to_bytes(alloc, task, bytes, ports, runner);
+            match reply {
+                Ok(reply) => (Ok(reply), ports),
+                Err(NoMemory) => (Err(Silence::NoMemory), ports),
+            }
+        }
+        Err(ReadFault::Failed) => (Err(Silence::ReadFault), ports),
         Err(ReadFault::TooLong) => match too_long(alloc, limit) {
-            Ok(reply) => Ok(reply),
-            Err(NoMemory) => Err(Silence::NoMemory),
+            Ok(reply) => (Ok(reply), ports),
+            Err(NoMemory) => (Err(Silence::NoMemory), ports),
         },
-        Err(ReadFault::NoMemory) => Err(Silence::NoMemory),
+        Err(ReadFault::NoMemory) => (Err(Silence::NoMemory), ports),
     }
 }
 
 /// The reply to a whole input, which is read as what the task takes.
-fn reply_to_bytes(alloc: Global, task: Task, bytes: Vec<u8>) -> Result<Reply, NoMemory>
+fn reply_to_bytes<P: Port + Send, X: Runner>(
+    alloc: Global,
+    task: Task,
+    bytes: Vec<u8>,
+    ports: Vec<P>,
+    runner: &X,
+) -> (Result<Reply, NoMemory>, Vec<P>)
     requires short { length bytes.items ≤ limit_of task }
     requires bounded { IsBounded task }
-    ensures { IfOk result (λ r. Says task r.status bytes.items r.text.items) }
+    requires order { RunsBy X.in_rounds task }
+    requires few { length ports.items ≤ MOST_PORTS }
+    ensures says { IfOk result.0 (λ r. Says task r.status (map P.tells ports.items) (map P.tells result.1.items) bytes.items r.text.items) }
+    ensures as_many { length result.1.items ≡ length ports.items }
+    ensures aside { runs_image task ≡ false → result.1 ≡ ports }
+    ensures refused { IfOk result.0 (λ r. IsRefusal r.status → result.1 ≡ ports) }
 {
     match task {
-        Task::OfBundle(task) => reply_to_text(alloc, task, &bytes),
-        Task::OfImage(task) => reply_to_image(alloc, task, bytes),
-        Task::OfJournal(task) => reply_to_journal(alloc, task, &bytes),
+        Task::OfBundle(task) => reply_to_text(alloc, task, &bytes, ports, runner),
+        Task::OfImage(task) => reply_to_image(alloc, task, bytes, ports, runner),
+        Task::OfJournal(task) => (reply_to_journal(alloc, task, &bytes), ports),
     }
 }

@@ -3,9 +3,8 @@
 ghost use Rattle.std.specs.Prelude.{◌≡◌, ◌≤◌, IfOk, length};
 ghost use Rattle.commands.specs.Tells.{steps_of_journal};
 ghost use Rattle.commands.specs.declared.status.Status.TheVariants as status;
-ghost use Rattle.commands.specs.declared.task.Task.TheVariants.{OfJournal};
 ghost use Rattle.journal_text.specs.Journals.{bundle_part, journal_part};
-ghost use Rattle.micro_cli.specs.Answers.{Says, SaysOfParts};
+ghost use Rattle.micro_cli.specs.Answers.{SaysOfJournal, SaysOfParts};
 ghost use Rattle.micro_cli.specs.Lines.{too_long_line};
 
 use crate::bundle_replies::bad_bundle;
@@ -26,7 +25,7 @@ pub(crate) fn reply_to_journal(
 ) -> Result<Reply, NoMemory>
     requires short { length input.now ≤ LONGEST_JOURNAL }
     requires bounded { steps_of_journal task ≤ MOST_STEPS }
-    ensures { IfOk result (λ r. Says (OfJournal task) r.status input.now r.text.items) }
+    ensures { IfOk result (λ r. SaysOfJournal task r.status input.now r.text.items) }
 {
     let (text, journal) = split_journal(input);
     if LONGEST_BUNDLE < text.len() {

@@ -11,5 +11,5 @@ mod lines;
 mod tests;
 mod words;
 
-pub use call::plain_call;
+pub use call::{Finish, plain_call};
 pub use commands::Status;

@@ -101,9 +101,9 @@ fn status_of(alloc: Global, call: &Call) -> Result<Status, Fail> {
     let Ok(mut sink) = MemSink::of(alloc, 4, writes, 1000) else {
         return Err(Fail::from("ample memory"));
     };
-    let status = plain_call(alloc, &words, &mut source, &mut sink);
+    let finish = plain_call(alloc, &words, &mut source, &mut sink, Vec::new(alloc));
     if sink.wrote_bytes() == call.wrote {
-        Ok(status)
+        Ok(finish.status)
     } else {
         Err(Fail::from("other bytes were written"))
     }
@@ -219,7 +219,8 @@ fn replays_journals(rt: HostRuntime) -> Result<(), Fail> {
         let Ok(mut sink) = MemSink::of(alloc, 64, Vec::new(alloc), 1000) else {
             return Err(Fail::from("ample memory"));
         };
-        assert_eq!(rt; plain_call(alloc, &words, &mut source, &mut sink), status);
+        let finish = plain_call(alloc, &words, &mut source, &mut sink, Vec::new(alloc));
+        assert_eq!(rt; finish.status, status);
         assert!(rt; sink.wrote_bytes() == wrote);
     }
     Ok(())
@@ -234,9 +235,9 @@ fn check_newlines(alloc: Global, count: usize, wrote: &[u8]) -> Result<Status, F
     let Ok(mut sink) = MemSink::of(alloc, 64, Vec::new(alloc), 1000) else {
         return Err(Fail::from("ample memory"));
     };
-    let status = plain_call(alloc, &words, &mut source, &mut sink);
+    let finish = plain_call(alloc, &words, &mut source, &mut sink, Vec::new(alloc));
     if sink.wrote_bytes() == wrote {
-        Ok(status)
+        Ok(finish.status)
     } else {
         Err(Fail::from("other bytes were written"))
     }
