@@ -1,8 +1,8 @@
 -- With as many private places as places in all, the walk is that with more private places too.
-use Rattle.std.proofs.Common.{◌≡◌, ℕ, zero, suc, ◌<◌, ◌≤◌, List, [], ◌∷◌, ◌++◌, Option, Some, None, length, refl, arith}
+use Rattle.std.proofs.Common.{◌≡◌, ℕ, zero, suc, ◌<◌, ◌≤◌, List, [], ◌∷◌, Option, Some, None, length, refl, arith}
 use Rattle.micro_isa.specs.declared.program.Line.{Line}
 use Rattle.flow_graph.specs.Paths.{IsClosedCode}
-use Rattle.liveness.specs.Pressures.{HasRoom, IsPrivatePressure, IsTotalPressure}
+use Rattle.liveness.specs.Pressures.{HasRoom}
 use Rattle.plan.specs.declared.row.PlanRow.{PlanRow}
 use Rattle.plan.specs.declared.row.Plan.{Plan}
 use Rattle.point_walk.specs.Walks.{Table, place_at, nothing, WishBelow, StepsFrom, Stage, AreGiven, Follows, Walked, IsWalk}
