@@ -1,5 +1,5 @@
 -- The preferred budget, the plans of its sizes and their image are the allocation.
-use Rattle.std.proofs.Common.{◌≡◌, ℕ, ◌<◌, ◌≤◌, List, length, Result, Ok, Err, sym, ap, ◌∙◌, subst, arith}
+use Rattle.std.proofs.Common.{◌≡◌, ℕ, ◌≤◌, List, length, Result, Ok, Err, ap, ◌∙◌, subst, arith}
 use Rattle.std.specs.Prelude.{IfErr}
 use Rattle.micro_isa.specs.declared.program.Bundle.{Bundle}
 use Rattle.micro_isa.specs.declared.image.Image.{Image}
@@ -8,10 +8,8 @@ use Rattle.pressure.specs.Pressures.{need_of}
 use Rattle.plan.specs.declared.row.Plan.{Plan}
 use Rattle.budget.specs.declared.Budget.{Budget}
 use Rattle.budget.specs.declared.CostTable.{CostTable}
-use Rattle.budget.specs.Costs.{demands_of}
 use Rattle.budget.specs.Fitting.{need_of as demands_need}
 use Rattle.emitted.specs.Emitted.{emitted}
-use Rattle.allocate.specs.declared.allocation.Allocation.{Allocation}
 use Rattle.allocate.specs.declared.allocation.AllocFault.{AllocFault}
 use Rattle.allocate.specs.declared.allocation.AllocFault.TheVariants.{NoFit, NoMemory}
 use Rattle.allocate.specs.Needs.{ArePressures}

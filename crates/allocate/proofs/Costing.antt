@@ -1,9 +1,8 @@
 -- What cells cost, by the costs of fits and of the walk.
-use Rattle.std.proofs.Common.{◌≡◌, ℕ, zero, suc, ◌+◌, ◌*◌, ◌<◌, ◌≤◌, ◌⊎◌, min, nat_le, Bool, true, false, List, [], ◌∷◌, ◌++◌, Option, Some, None, length, length-append, refl, sym, ap, subst, ◌∙◌, arith, inl, inr}
-use Rattle.std.specs.Prelude.{if◌then◌else◌, slice_get, slice_index}
+use Rattle.std.proofs.Common.{◌≡◌, ℕ, ◌+◌, ◌<◌, ◌≤◌, min, nat_le, Bool, true, false, List, Option, Some, None, refl, sym, ap, subst, ◌∙◌, arith, inl, inr}
+use Rattle.std.specs.Prelude.{if◌then◌else◌, slice_index}
 use Rattle.std.proofs.lemmas.Bool.{cases_lt}
 use Rattle.std.proofs.lemmas.Bool.Decides.{nat_tests}
-use Rattle.micro_isa.specs.declared.limits.TheConstants.{MOST_FILE}
 use Rattle.micro_isa.specs.declared.program.Line.{Line}
 use Rattle.flow_graph.specs.Paths.{IsClosedCode}
 use Rattle.pressure.specs.declared.region.Regions.{Regions}
@@ -12,8 +11,8 @@ use Rattle.pressure.specs.Pressures.{IsPressureOf}
 use Rattle.pressure.specs.Regions.{AreRegionsOf}
 use Rattle.plan.specs.declared.row.Plan.{Plan}
 use Rattle.range_colour.specs.declared.fit.Fit.{Fit}
-use Rattle.range_colour.specs.PlacedPlans.{DoesNotFit, IsWholeFit, IsRegionFit}
-use Rattle.range_colour.specs.Regional.{AreFits, DoFit, fits_test}
+use Rattle.range_colour.specs.PlacedPlans.{IsWholeFit, IsRegionFit}
+use Rattle.range_colour.specs.Regional.{AreFits, DoFit}
 use Rattle.range_colour.proofs.Grouping.{region_none}
 use Rattle.range_colour.proofs.Unique.{region_once}
 use Rattle.point_walk.specs.Walks.{IsWalk}
@@ -23,10 +22,9 @@ use Rattle.point_walk.proofs.Rooms.{room_of}
 use Rattle.emitted.specs.Words.{glue_of}
 use Rattle.emit.specs.Sized.{with_places}
 use Rattle.allocate.specs.declared.cell.Planned.{Planned}
-use Rattle.allocate.specs.declared.fits.Fits.{Fits}
 use Rattle.allocate.specs.Cells.{IsCell}
-use Rattle.allocate.specs.Fits.{AreFitsOf, AreRegionCosts, TellsRegions, TellsWhole}
-use Rattle.allocate.specs.Tables.{Costs, IsFitCost, IsFitted, IsRegionCost, AreWalkCosts, IsWalkCost, lesser_cost}
+use Rattle.allocate.specs.Fits.{AreRegionCosts}
+use Rattle.allocate.specs.Tables.{Costs, IsFitCost, IsRegionCost, AreWalkCosts, IsWalkCost, lesser_cost}
 use Rattle.allocate.proofs.Still.{whole_no_glue}
 
 module _ (code : List Line) (p r : ℕ) where

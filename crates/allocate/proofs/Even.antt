@@ -1,32 +1,26 @@
 -- The glue of an allocation is what its budget costs, and the number of words of its image that are not counted.
-use Rattle.std.proofs.Common.{◌≡◌, ℕ, zero, suc, ◌+◌, ◌<◌, ◌≤◌, List, [], ◌∷◌, ◌++◌, length, Option, Some, None, refl, sym, ap, ◌∙◌, subst, arith, inl, inr}
+use Rattle.std.proofs.Common.{◌≡◌, ℕ, zero, suc, ◌+◌, List, [], ◌∷◌, length, refl, sym, ap, ◌∙◌, subst, arith, inl}
 use Rattle.std.specs.Prelude.{slice_get, not}
-use Rattle.std.specs.List.{AllZip, filter, sum_by}
+use Rattle.std.specs.List.{filter, sum_by}
 use Rattle.std.proofs.lemmas.List.Sums.{sum_by-append, sum_by-cons}
-use Rattle.micro_isa.specs.declared.program.Line.{Line}
 use Rattle.micro_isa.specs.declared.program.Program.{Program}
 use Rattle.micro_isa.specs.declared.program.Bundle.{Bundle}
 use Rattle.micro_isa.specs.declared.image.Code.{Code}
-use Rattle.micro_isa.specs.declared.image.Image.{Image}
 use Rattle.micro_isa.specs.Formed.{IsFormedBundle}
 use Rattle.micro_isa.specs.Pieces.{pieces, total}
-use Rattle.flow_graph.specs.Paths.{IsClosedCode}
 use Rattle.semantics.specs.Source.{code_in, code_of}
-use Rattle.pressure.specs.declared.pressure_of.Pressure.{Pressure}
 use Rattle.plan.specs.declared.row.Plan.{Plan}
-use Rattle.range_colour.specs.PlacedPlans.{IsWholeFit}
 use Rattle.budget.specs.declared.Budget.{Budget}
 use Rattle.budget.specs.Fitting.{Fits}
 use Rattle.budget.proofs.Keys.{by_key_le}
 use Rattle.emitted.specs.Words.{glue_of}
-use Rattle.emitted.specs.Emitted.{context_of, emitted, plan_at, register_in}
+use Rattle.emitted.specs.Emitted.{context_of, plan_at, register_in}
 use Rattle.emitted.proofs.Counting.{glue_words}
 use Rattle.allocate.specs.declared.allocation.Allocation.{Allocation}
-use Rattle.allocate.specs.Cells.{IsCell, IsCellOf, FitsWhole, all_places, private_places}
+use Rattle.allocate.specs.Cells.{all_places, private_places}
 use Rattle.allocate.specs.Items.{AreClosed}
-use Rattle.allocate.specs.Needs.{ArePressures}
 use Rattle.allocate.specs.Preferred.{AllFitWhole, HasCost, HaveCells, demands_by}
-use Rattle.allocate.specs.Allocations.{IsAllocation, IsEven, IsStill, glue_of_all, uncounted_words}
+use Rattle.allocate.specs.Allocations.{IsAllocation, IsEven, IsStill, uncounted_words}
 use Rattle.allocate.proofs.Costing.{cell_glue}
 use Rattle.allocate.proofs.Once.{cells_once, parts_once}
 use Rattle.allocate.proofs.Zipping.{all_closed}

@@ -1,10 +1,9 @@
 -- Where a fit over the whole program fits, there is a plan by it.
-use Rattle.std.proofs.Common.{◌≡◌, ℕ, zero, suc, ◌+◌, ◌*◌, ◌/◌, ◌%◌, ◌^◌, ◌<◌, ◌≤◌, ◌↔◌, ◌&&◌, Bool, true, false, List, [], ◌∷◌, ◌++◌, map, Option, Some, None, length, length-append, nat_le, refl, sym, ap, subst, ◌∙◌, arith, inl, inr}
+use Rattle.std.proofs.Common.{◌≡◌, ℕ, zero, suc, ◌+◌, ◌*◌, ◌/◌, ◌%◌, ◌^◌, ◌<◌, ◌≤◌, Bool, true, false, List, [], ◌∷◌, ◌++◌, map, Some, length, length-append, refl, sym, ap, subst, ◌∙◌, arith, inl, inr}
 use Rattle.std.specs.Prelude.{option_map, slice_get, slice_index}
 use Rattle.std.specs.Int.{bit_at}
 use Rattle.std.specs.List.{Contains}
 use Rattle.std.proofs.lemmas.Bool.{cases_lt}
-use Rattle.std.proofs.lemmas.Bool.Decides.{nat_tests}
 use Rattle.std.proofs.lemmas.Nat.Bits.{bit_at_above, bit_at_cat_low}
 use Rattle.micro_isa.specs.declared.program.Line.{Line}
 use Rattle.micro_isa.specs.declared.program.VReg.{VReg}
@@ -17,12 +16,11 @@ use Rattle.liveness.specs.Sets.{IsSetOf, members}
 use Rattle.liveness.proofs.Visits.{live_small}
 use Rattle.plan.specs.declared.row.Place.{Place}
 use Rattle.plan.specs.declared.row.PlanRow.{PlanRow}
-use Rattle.plan.specs.declared.row.Plan.{Plan}
 use Rattle.plan.specs.ValidPlans.{registers_of}
 use Rattle.range_colour.specs.declared.fit.Fit.{Fit}
 use Rattle.range_colour.specs.Fits.{IsFit, places_in}
 use Rattle.range_colour.specs.Groups.{Every}
-use Rattle.range_colour.specs.PlacedPlans.{AreRowsPlaced, IsPlacedRow, IsWholeFit}
+use Rattle.range_colour.specs.PlacedPlans.{AreRowsPlaced, IsPlacedRow}
 use Rattle.range_colour.specs.Regional.{fits_test}
 use Rattle.range_colour.proofs.Placing.{row_placed}
 use Rattle.range_colour.proofs.Planning.{pushed_each, whole_none, whole_some}

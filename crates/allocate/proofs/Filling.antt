@@ -1,5 +1,5 @@
 -- Cells are filled in row by row.
-use Rattle.std.proofs.Common.{◌≡◌, ℕ, zero, suc, ◌+◌, ◌*◌, ◌-◌, ◌<◌, ◌≤◌, ◌&&◌, nat_le, Bool, true, false, List, [], ◌∷◌, ◌++◌, replicate, length, length-append, get_or, refl, sym, ap, ◌∙◌, subst, arith, inl, inr}
+use Rattle.std.proofs.Common.{◌≡◌, ℕ, zero, suc, ◌+◌, ◌*◌, ◌-◌, ◌<◌, ◌≤◌, true, List, [], ◌++◌, replicate, length, length-append, refl, sym, ap, ◌∙◌, subst, arith, inl, inr}
 use Rattle.std.specs.Prelude.{slice_index}
 use Rattle.std.proofs.lemmas.Bool.{cases_lt}
 use Rattle.std.proofs.lemmas.Bool.Decides.{nat_tests}
@@ -15,8 +15,6 @@ use Rattle.range_colour.specs.declared.fit.Fit.{Fit}
 use Rattle.range_colour.specs.Fits.{IsFit}
 use Rattle.range_colour.specs.Groups.{Every}
 use Rattle.range_colour.specs.Regional.{fits_test}
-use Rattle.budget.specs.declared.CostTable.{CostTable}
-use Rattle.budget.specs.declared.TheConstants.{MOST_COST, SIZES}
 use Rattle.allocate.specs.Fits.{TellsWhole}
 use Rattle.allocate.specs.Tables.{AreRowCosts, AreRows, AreSmall, Costs, IsTabled}
 use Rattle.allocate.proofs.Existing.{whole_tells}

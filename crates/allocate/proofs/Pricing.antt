@@ -1,14 +1,13 @@
 -- Tables of costs tell what budgets cost, so the best one by tables is the preferred one.
-use Rattle.std.proofs.Common.{◌≡◌, ℕ, zero, suc, ◌+◌, ◌-◌, ◌*◌, ◌<◌, ◌≤◌, min, max, List, [], ◌∷◌, ◌++◌, map, Option, Some, None, length, sum, get_or, refl, sym, ap, subst, ◌∙◌, arith, inl, inr}
-use Rattle.std.specs.Prelude.{replicate, slice_get, slice_index}
+use Rattle.std.proofs.Common.{◌≡◌, ℕ, zero, suc, ◌+◌, ◌-◌, ◌*◌, ◌<◌, ◌≤◌, max, List, [], ◌∷◌, map, length, sum, get_or, refl, sym, ap, subst, ◌∙◌, arith}
+use Rattle.std.specs.Prelude.{slice_index}
 use Rattle.std.specs.List.{All, AllZip, sum_by}
 use Rattle.std.proofs.lemmas.List.Sums.{sum_by-cons}
-use Rattle.std.proofs.lemmas.Slice.Zip.{AllZip-long}
 use Rattle.micro_isa.specs.declared.program.Line.{Line}
 use Rattle.micro_isa.specs.declared.program.Program.{Program}
 use Rattle.micro_isa.specs.declared.program.Bundle.{Bundle}
 use Rattle.pressure.specs.declared.pressure_of.Pressure.{Pressure}
-use Rattle.pressure.specs.Pressures.{IsPressureOf, greatest, need_of}
+use Rattle.pressure.specs.Pressures.{greatest, need_of}
 use Rattle.plan.specs.declared.row.Plan.{Plan}
 use Rattle.budget.specs.declared.Budget.{Budget}
 use Rattle.budget.specs.declared.CostTable.{CostTable}
@@ -19,7 +18,7 @@ use Rattle.budget.specs.Fitting.{Demand, Fits, greatest_gap, need_of as demands_
 use Rattle.budget.proofs.Choosing.{sum-cons}
 use Rattle.allocate.specs.Cells.{IsCell, IsCellOf, all_places, private_places}
 use Rattle.allocate.specs.Needs.{ArePressures}
-use Rattle.allocate.specs.Preferred.{HasCost, HaveCells, IsPreferred, demand_by, demands_by}
+use Rattle.allocate.specs.Preferred.{HasCost, IsPreferred, demand_by, demands_by}
 use Rattle.allocate.specs.Tables.{IsTabled}
 use Rattle.allocate.proofs.Once.{pressure_once}
 

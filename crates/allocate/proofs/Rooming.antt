@@ -1,6 +1,6 @@
 -- The preferred budget is room enough for the plans of its sizes.
-use Rattle.std.proofs.Common.{◌≡◌, ℕ, zero, suc, ◌+◌, ◌-◌, ◌<◌, ◌≤◌, List, [], ◌∷◌, ◌++◌, length, length-append, map, sum, get_or, Option, Some, None, refl, sym, ap, ◌∙◌, subst, arith, inl, inr}
-use Rattle.std.specs.Prelude.{max, slice_get, slice_index}
+use Rattle.std.proofs.Common.{◌≡◌, ℕ, zero, suc, ◌+◌, ◌-◌, ◌<◌, ◌≤◌, List, [], ◌∷◌, ◌++◌, length, length-append, map, sum, get_or, Some, refl, sym, ap, ◌∙◌, subst, arith, inl, inr}
+use Rattle.std.specs.Prelude.{slice_get, slice_index}
 use Rattle.std.specs.List.{All, AllZip, sum_by}
 use Rattle.std.proofs.lemmas.List.Sums.{sum_by-cons}
 use Rattle.std.proofs.lemmas.Option.{same_Some, slice_get_within}
@@ -14,7 +14,6 @@ use Rattle.plan.specs.declared.row.Plan.{Plan}
 use Rattle.plan.specs.ValidPlans.{IsValidPlan}
 use Rattle.range_colour.proofs.Planning.{pushed_each}
 use Rattle.budget.specs.declared.Budget.{Budget}
-use Rattle.budget.specs.Costs.{clipped}
 use Rattle.budget.specs.Fitting.{Fits}
 use Rattle.budget.proofs.Choosing.{sum-cons}
 use Rattle.emitted.specs.Emitted.{ArePlans, HasRoom}

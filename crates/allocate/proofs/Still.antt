@@ -1,8 +1,8 @@
 -- A plan by the fit over the whole program moves nothing, so it has no glue.
-use Rattle.std.proofs.Common.{◌≡◌, ◌≢◌, ℕ, zero, suc, ◌+◌, ◌<◌, ◌==◌, Bool, true, false, List, [], ◌∷◌, Option, Some, None, length, get_or, refl, sym, ap, subst, ◌∙◌, arith}
+use Rattle.std.proofs.Common.{◌≡◌, ℕ, zero, suc, ◌+◌, ◌<◌, ◌==◌, Bool, true, false, List, [], ◌∷◌, Option, Some, None, length, get_or, refl, sym, ap, subst, ◌∙◌, arith}
 use Rattle.std.specs.Prelude.{slice_get, if◌then◌else◌}
 use Rattle.std.specs.List.{Contains}
-use Rattle.std.proofs.lemmas.Bool.{eqb-true, eqb-false, eq-eqb}
+use Rattle.std.proofs.lemmas.Bool.{eqb-true, eqb-false}
 use Rattle.std.proofs.lemmas.Option.{slice_get_within}
 use Rattle.micro_isa.specs.declared.program.Line.{Line}
 use Rattle.micro_isa.specs.declared.program.VReg.{VReg}
@@ -10,7 +10,6 @@ use Rattle.micro_isa.specs.Pieces.{total}
 use Rattle.micro_isa.specs.Columns.{written_by}
 use Rattle.flow_graph.specs.Paths.{Edge, IsClosedCode}
 use Rattle.liveness.specs.Liveness.{LiveIn}
-use Rattle.liveness.specs.Surviving.{WritesAt}
 use Rattle.edge_moves.specs.MoveSteps.{moving}
 use Rattle.plan.specs.declared.row.Place.{Place}
 use Rattle.plan.specs.declared.row.PlanRow.{PlanRow}
@@ -18,7 +17,7 @@ use Rattle.plan.specs.declared.row.Plan.{Plan}
 use Rattle.plan.specs.ValidPlans.{place_in, registers_of}
 use Rattle.range_colour.specs.PlacedPlans.{IsPlacedBy, IsWholeFit, MovesNothing}
 use Rattle.range_colour.proofs.Valid.{is_behind, is_first, nothing_moves, place_is}
-use Rattle.emitted.specs.Edges.{row_in, row_at, place_or_zero, place_after, pairs_from, free_from, edge_pairs, edge_steps, next_at, steps_to, fall_steps, jump_steps, written_in}
+use Rattle.emitted.specs.Edges.{row_in, row_at, place_or_zero, place_after, pairs_from, free_from, edge_pairs, edge_steps, next_at, steps_to, fall_steps, written_in}
 use Rattle.emitted.specs.Words.{block_size, glue_of, size_with_jump}
 use Rattle.emitted.proofs.Rows.{item_at}
 use Rattle.emit.proofs.Edging.{fall_edge, jump_edge, no_steps}

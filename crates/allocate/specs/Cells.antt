@@ -1,5 +1,5 @@
 -- The plan of a context for given numbers of places, and what it costs.
-use Rattle.std.specs.Prelude.{ℕ, ◌≡◌, ◌+◌, ◌<◌, ◌≤◌, ◌⊎◌, List, Option, Some, None}
+use Rattle.std.specs.Prelude.{ℕ, ◌≡◌, ◌+◌, ◌<◌, ◌≤◌, ◌⊎◌, List, Some, None}
 use Rattle.micro_isa.specs.declared.program.Line.{Line}
 use Rattle.pressure.specs.declared.pressure_of.Pressure.{Pressure}
 use Rattle.pressure.specs.Pressures.{IsPressureOf}

@@ -1,5 +1,5 @@
 -- What is known of the items of lists of programs, place by place.
-use Rattle.std.specs.Prelude.{ℕ, ◌≡◌, List, [], ◌∷◌, Option, Some, None, slice_get}
+use Rattle.std.specs.Prelude.{ℕ, ◌≡◌, List, [], ◌∷◌, Some, slice_get}
 use Rattle.micro_isa.specs.declared.program.Line.{Line}
 use Rattle.micro_isa.specs.declared.program.Program.{Program}
 use Rattle.flow_graph.specs.Paths.{IsClosedCode}

@@ -1,19 +1,14 @@
 -- The budget that is preferred among all that fit.
-use Rattle.std.specs.Prelude.{ℕ, ◌≡◌, ◌+◌, ◌*◌, ◌<◌, ◌≤◌, List, [], ◌∷◌, map, slice_get, slice_index, Some}
+use Rattle.std.specs.Prelude.{ℕ, ◌≡◌, ◌+◌, List, [], ◌∷◌, map}
 use Rattle.std.specs.List.{AllZip}
-use Rattle.micro_isa.specs.declared.program.Line.{Line}
 use Rattle.micro_isa.specs.declared.program.Program.{Program}
 use Rattle.micro_isa.specs.declared.program.Bundle.{Bundle}
 use Rattle.pressure.specs.declared.pressure_of.Pressure.{Pressure}
-use Rattle.pressure.specs.Pressures.{IsPressureOf}
 use Rattle.plan.specs.declared.row.Plan.{Plan}
 use Rattle.budget.specs.declared.Budget.{Budget}
-use Rattle.budget.specs.declared.CostTable.{CostTable}
-use Rattle.budget.specs.declared.TheConstants.{SIZES}
 use Rattle.budget.specs.Fitting.{Demand, Fits}
-use Rattle.budget.specs.Costs.{IsCostTable}
 use Rattle.budget.specs.Best.{IsNoLater}
-use Rattle.allocate.specs.Cells.{IsCell, IsCellOf, FitsWhole}
+use Rattle.allocate.specs.Cells.{IsCellOf, FitsWhole}
 
 -- what the contexts need
 abbrev pub demand_by : Pressure → Demand

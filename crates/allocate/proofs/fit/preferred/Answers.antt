@@ -1,12 +1,11 @@
-use Rattle.std.proofs.Common.{◌≡◌, ◌+◌, ◌-◌, ◌<◌, ◌≤◌, List, length, sym, ap, ◌∙◌, subst, arith}
-use Rattle.std.specs.List.{All, AllZip, sum_by}
-use Rattle.std.specs.Prelude.{IfErr, IfOk}
+use Rattle.std.proofs.Common.{◌≡◌, ◌+◌, ◌-◌, List, length, sym, ap, ◌∙◌, subst, arith}
+use Rattle.std.specs.List.{All, sum_by}
+use Rattle.std.specs.Prelude.{IfErr}
 use Rattle.std.proofs.lemmas.Result.{IfOk-weaker}
 use Rattle.std.proofs.lemmas.Slice.Zip.{AllZip-long}
 use Rattle.micro_isa.specs.declared.program.Program.{Program}
 use Rattle.budget.specs.Best.{IsBest}
 use Rattle.budget.specs.Costs.{IsCostTable}
-use Rattle.budget.specs.declared.Budget.{Budget}
 use Rattle.budget.specs.declared.CostTable.{CostTable}
 use Rattle.pressure.specs.declared.pressure_of.Pressure.{Pressure}
 use Rattle.allocate.specs.Items.{AreClosed}
