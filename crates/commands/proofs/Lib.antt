@@ -2,3 +2,4 @@ pub mod Reporting
 pub mod Telling
 pub mod Worked
 pub mod Replaying
+pub mod Soaking

@@ -130,7 +130,7 @@ in_rounds_is r r' after s a went =
     }
 
 -- a run whose ports were attached and which was brought to an ending
-run_is : (in_rounds : Bool) (r r' after : RunState) (s s' : SlotsState) → IsAttached r r' s → (b : Brought in_rounds r' after) → IsBench s.told after s' → IsRunOf in_rounds (bound_of r.engine) r.engine.image s.told s'.told after.entries (engine.config_of after.engine) b.how
+pub run_is : (in_rounds : Bool) (r r' after : RunState) (s s' : SlotsState) → IsAttached r r' s → (b : Brought in_rounds r' after) → IsBench s.told after s' → IsRunOf in_rounds (bound_of r.engine) r.engine.image s.told s'.told after.entries (engine.config_of after.engine) b.how
 run_is in_rounds r r' after s s' a b bench =
     let m = r.engine.image in
     let image : after.engine.image ≡ m = b.image ∙ a.image in

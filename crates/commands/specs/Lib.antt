@@ -1,4 +1,5 @@
 pub mod StatusCodes
 pub mod Reports
 pub mod Tells
+pub mod Soaks
 pub mod Journals

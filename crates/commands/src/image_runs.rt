@@ -76,7 +76,7 @@ fn report_of_closed<P: Port>(
     (report_of_run(alloc, need, &run), slots.close())
 }
 
-fn ports_of<P: Port>(closed: Closed<P>) -> Vec<P>
+pub(crate) fn ports_of<P: Port>(closed: Closed<P>) -> Vec<P>
     ensures { map P.tells result.items ≡ closed.slots.told }
 {
     let Closed { run: _, slots } = closed;
@@ -105,7 +105,11 @@ pub(crate) fn report_of_run(alloc: Global, need: Option<u32>, run: &Run) -> Resu
     })
 }
 
-fn outcome(alloc: Global, engine: &Engine, ending: Option<End>) -> Result<Outcome, NoMemory>
+pub(crate) fn outcome(
+    alloc: Global,
+    engine: &Engine,
+    ending: Option<End>,
+) -> Result<Outcome, NoMemory>
     ensures { IfOk result (λ last. last ≡ record { view = shown_core engine.now.core; file = Some engine.now.file; ending = ending }) }
 {
     let view = engine.view(alloc)?;

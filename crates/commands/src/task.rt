@@ -1,5 +1,14 @@
 use crate::status::Status;
 
+/// What the words of a call ask for.
+#[derive(Clone, Copy, Debug, PartialEq, Eq)]
+pub enum Job {
+    /// An input is read, and something is done with it.
+    OfInput(Task),
+    /// The bundle that a number generates is built and run. Nothing is read.
+    Soak { number: u32 },
+}
+
 /// What is to be done with an input: each kind of task reads its own kind of input.
 #[derive(Clone, Copy, Debug, PartialEq, Eq)]
 pub enum Task {

@@ -8,11 +8,15 @@ use Rattle.asm_text.specs.Texts.{text_fault, Spells}
 use Rattle.ports.specs.declared.told.Told.{Told}
 use Rattle.commands.specs.declared.status.Status.{Status}
 use Rattle.commands.specs.declared.status.Status.TheVariants as status
+use Rattle.commands.specs.declared.task.Job.{Job}
+use Rattle.commands.specs.declared.task.Job.TheVariants.{OfInput, Soak}
 use Rattle.commands.specs.declared.task.Task.{Task}
 use Rattle.commands.specs.declared.task.Task.TheVariants.{OfBundle, OfImage, OfJournal}
 use Rattle.commands.specs.declared.task.BundleTask.{BundleTask}
 use Rattle.commands.specs.declared.task.ImageTask.{ImageTask}
-use Rattle.commands.specs.Tells.{TellsOfBundle, TellsOfImage, Fits, IsServed}
+use Rattle.soak_gen.specs.Bundles.{generated}
+use Rattle.commands.specs.Soaks.{TellsSoak}
+use Rattle.commands.specs.Tells.{TellsOfBundle, TellsOfImage, Fits, FitsFile, IsServed}
 use Rattle.image_load.specs.declared.fault.ImageKind.{ImageKind}
 use Rattle.image_load.specs.declared.fault.ImageFault.TheVariants as bytes_fault
 use Rattle.image_load.specs.Faults.{Causes}
@@ -72,14 +76,19 @@ asks_of_length task answer left left' start now text taken given above answered 
     inl (record { answered = answered; taken = taken; given = given; above = above; told = told })
 
 -- words that ask for no task
-pub asks_of_usage : (answer : Status) (wanted : Option Task) (left : Option (List ℕ)) (start now : List Told) (text : List ℕ) → wanted ≡ None → answer ≡ status.Usage → text ≡ usage_line → Asks answer wanted left left start now text
+pub asks_of_usage : (answer : Status) (wanted : Option Job) (left : Option (List ℕ)) (start now : List Told) (text : List ℕ) → wanted ≡ None → answer ≡ status.Usage → text ≡ usage_line → Asks answer wanted left left start now text
 asks_of_usage answer wanted left start now text none answered told =
     inl (record { answered = answered; meaningless = none; untouched = refl; told = told })
 
--- words that ask for a task
-pub asks_of_task : (answer : Status) (wanted : Option Task) (left left' : Option (List ℕ)) (start now : List Told) (text : List ℕ) (task : Task) → wanted ≡ Some task → AsksOfInput task answer left left' start now text → Asks answer wanted left left' start now text
-asks_of_task answer wanted left left' start now text task asked tells = inr (record { task = task; asked = asked; tells = tells })
+-- words that ask for the run of a generated bundle
+pub asks_of_number : (answer : Status) (wanted : Option Job) (left : Option (List ℕ)) (start now : List Told) (text : List ℕ) (number : ℕ) → wanted ≡ Some (Soak number) → TellsSoak number answer text → (FitsFile (generated number) → IsServed answer) → Asks answer wanted left left start now text
+asks_of_number answer wanted left start now text number asked tells served =
+    inr (inl (record { number = number; asked = asked; untouched = refl; tells = tells; served = served }))
 
-pub silent_of_words : (why : Silence) (wanted : Option Task) (left left' : Option (List ℕ)) (faults faults' : ℕ) (task : Task) → wanted ≡ Some task → FailsToRead task why left left' faults faults' → IsSilent why wanted left left' faults faults'
+-- words that ask for a task
+pub asks_of_task : (answer : Status) (wanted : Option Job) (left left' : Option (List ℕ)) (start now : List Told) (text : List ℕ) (task : Task) → wanted ≡ Some (OfInput task) → AsksOfInput task answer left left' start now text → Asks answer wanted left left' start now text
+asks_of_task answer wanted left left' start now text task asked tells = inr (inr (record { task = task; asked = asked; tells = tells }))
+
+pub silent_of_words : (why : Silence) (wanted : Option Job) (left left' : Option (List ℕ)) (faults faults' : ℕ) (task : Task) → wanted ≡ Some (OfInput task) → FailsToRead task why left left' faults faults' → IsSilent why wanted left left' faults faults'
 silent_of_words silence.ReadFault wanted left left' faults faults' task asked fails = (task, asked, fails)
 silent_of_words silence.NoMemory wanted left left' faults faults' task asked fails = tt

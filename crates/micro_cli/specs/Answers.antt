@@ -13,6 +13,8 @@ use Rattle.image_load.specs.Loading.{image_fault}
 use Rattle.ports.specs.declared.told.Told.{Told}
 use Rattle.commands.specs.declared.status.Status.{Status}
 use Rattle.commands.specs.declared.status.Status.TheVariants as status
+use Rattle.commands.specs.declared.task.Job.{Job}
+use Rattle.commands.specs.declared.task.Job.TheVariants.{OfInput, Soak}
 use Rattle.commands.specs.declared.task.Task.{Task}
 use Rattle.commands.specs.declared.task.Task.TheVariants.{OfBundle, OfImage, OfJournal}
 use Rattle.commands.specs.declared.task.BundleTask.{BundleTask}
@@ -21,7 +23,9 @@ use Rattle.commands.specs.declared.task.JournalTask.{JournalTask}
 use Rattle.commands.specs.Journals.{TellsOfJournal, FitsJournal}
 use Rattle.journal_text.specs.Journals.{bundle_part, journal_part}
 use Rattle.micro_isa.specs.declared.limits.TheConstants.{LONGEST_BUNDLE}
-use Rattle.commands.specs.Tells.{TellsOfBundle, TellsOfImage, Fits, IsServed}
+use Rattle.soak_gen.specs.Bundles.{generated}
+use Rattle.commands.specs.Soaks.{TellsSoak}
+use Rattle.commands.specs.Tells.{TellsOfBundle, TellsOfImage, Fits, FitsFile, IsServed}
 use Rattle.micro_cli.specs.Lines.{usage_line, limit_of, too_long_line, bad_bundle_line, bad_image_line}
 
 -- the text has a first fault, and the line tells it
@@ -105,20 +109,29 @@ abbrev pub AsksOfInput : Task → Status → Option (List ℕ) → Option (List 
 AsksOfInput task answer left left' start now text =
     TellsTooLong task answer left left' text ⊎ TellsInput task answer left left' start now text
 
--- the words ask for no task, and nothing was read
-pub record TellsUsage (answer : Status) (wanted : Option Task) (left left' : Option (List ℕ)) (text : List ℕ) : Type 0 where
+-- the words ask for no job, and nothing was read
+pub record TellsUsage (answer : Status) (wanted : Option Job) (left left' : Option (List ℕ)) (text : List ℕ) : Type 0 where
   pub answered : answer ≡ status.Usage
   pub meaningless : wanted ≡ None
   pub untouched : left' ≡ left
   pub told : text ≡ usage_line
 
 -- the words ask for a task, and this is what it asks to be written
-pub record TellsTask (answer : Status) (wanted : Option Task) (left left' : Option (List ℕ)) (start now : List Told) (text : List ℕ) : Type 0 where
+pub record TellsTask (answer : Status) (wanted : Option Job) (left left' : Option (List ℕ)) (start now : List Told) (text : List ℕ) : Type 0 where
   pub task : Task
-  pub asked : wanted ≡ Some task
+  pub asked : wanted ≡ Some (OfInput task)
   pub tells : AsksOfInput task answer left left' start now text
 
--- what a call asks to be written, from the task that its words ask for, the bytes that its input had left before and has left
+-- the words ask for the run of the bundle that a number generates, and nothing was read; where that bundle fits it is served
+pub record TellsMade (answer : Status) (wanted : Option Job) (left left' : Option (List ℕ)) (text : List ℕ) : Type 0 where
+  pub number : ℕ
+  pub asked : wanted ≡ Some (Soak number)
+  pub untouched : left' ≡ left
+  pub tells : TellsSoak number answer text
+  pub served : FitsFile (generated number) → IsServed answer
+
+-- what a call asks to be written, from the job that its words ask for, the bytes that its input had left before and has left
 -- after, and what the ports told before and tell after
-abbrev pub Asks : Status → Option Task → Option (List ℕ) → Option (List ℕ) → List Told → List Told → List ℕ → Type 0
-Asks answer wanted left left' start now text = TellsUsage answer wanted left left' text ⊎ TellsTask answer wanted left left' start now text
+abbrev pub Asks : Status → Option Job → Option (List ℕ) → Option (List ℕ) → List Told → List Told → List ℕ → Type 0
+Asks answer wanted left left' start now text =
+    TellsUsage answer wanted left left' text ⊎ (TellsMade answer wanted left left' text ⊎ TellsTask answer wanted left left' start now text)

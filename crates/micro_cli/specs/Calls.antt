@@ -8,6 +8,8 @@ use Rattle.image_load.specs.Spelling.{Spells as SpellsImage}
 use Rattle.ports.specs.declared.told.Told.{Told}
 use Rattle.commands.specs.declared.status.Status.{Status}
 use Rattle.commands.specs.declared.status.Status.TheVariants as status
+use Rattle.commands.specs.declared.task.Job.{Job}
+use Rattle.commands.specs.declared.task.Job.TheVariants.{OfInput, Soak}
 use Rattle.commands.specs.declared.task.Task.{Task}
 use Rattle.commands.specs.declared.task.Task.TheVariants.{OfBundle, OfImage, OfJournal}
 use Rattle.commands.specs.declared.task.BundleTask.{BundleTask}
@@ -15,7 +17,8 @@ use Rattle.commands.specs.declared.task.JournalTask.{JournalTask}
 use Rattle.commands.specs.Journals.{FitsJournal}
 use Rattle.journal_text.specs.Journals.{bundle_part, journal_part}
 use Rattle.micro_isa.specs.declared.limits.TheConstants.{LONGEST_BUNDLE}
-use Rattle.commands.specs.Tells.{Fits, IsServed, IsRefusal, runs_image}
+use Rattle.soak_gen.specs.Bundles.{generated}
+use Rattle.commands.specs.Tells.{Fits, FitsFile, IsServed, IsRefusal, runs_image}
 use Rattle.micro_cli.specs.Lines.{limit_of}
 use Rattle.micro_cli.specs.Answers.{Asks}
 
@@ -49,14 +52,14 @@ outside left read_faults wrote write_faults tells input input' output output' po
 }
 
 -- the whole text that was asked for was written
-pub record WroteAll (answer : Status) (wanted : Option Task) (o : Outside) : Type 0 where
+pub record WroteAll (answer : Status) (wanted : Option Job) (o : Outside) : Type 0 where
   pub text : List ℕ
   pub asked : Asks answer wanted o.left o.left' o.ports o.ports' text
   pub grew : Grew o.wrote text o.wrote'
 
 -- a write failed, the sink's faults having risen in this call; a part of the text that was asked for was written. Where that is
 -- the line of a refusal, the ports are as they were
-pub record WasCutShort (answer : Status) (wanted : Option Task) (o : Outside) : Type 0 where
+pub record WasCutShort (answer : Status) (wanted : Option Job) (o : Outside) : Type 0 where
   pub answered : answer ≡ status.WriteFault
   pub rose : Rose o.write_faults o.write_faults'
   pub intended : Status
@@ -69,10 +72,10 @@ pub record WasCutShort (answer : Status) (wanted : Option Task) (o : Outside) : 
 
 -- the words ask for a task; a read failed, the source's faults having risen in this call, before more bytes than the limit
 -- were taken; nothing was written
-pub record CouldNotRead (answer : Status) (wanted : Option Task) (o : Outside) : Type 0 where
+pub record CouldNotRead (answer : Status) (wanted : Option Job) (o : Outside) : Type 0 where
   pub answered : answer ≡ status.ReadFault
   pub task : Task
-  pub asked : wanted ≡ Some task
+  pub asked : wanted ≡ Some (OfInput task)
   pub rose : Rose o.read_faults o.read_faults'
   pub taken : GivesAtMost o.left (limit_of task) o.left'
   pub silent : o.wrote' ≡ o.wrote
@@ -82,18 +85,19 @@ pub record WantedMemory (answer : Status) (o : Outside) : Type 0 where
   pub answered : answer ≡ status.NoMemory
   pub silent : o.wrote' ≡ o.wrote
 
--- what a call with this status leaves, whose words ask for this task
-abbrev pub Finishes : Status → Option Task → Outside → Type 0
+-- what a call with this status leaves, whose words ask for this job
+abbrev pub Finishes : Status → Option Job → Outside → Type 0
 Finishes answer wanted o =
     WroteAll answer wanted o ⊎ (WasCutShort answer wanted o ⊎ (CouldNotRead answer wanted o ⊎ WantedMemory answer o))
 
--- the words ask for no run of an image
-abbrev pub IsAside : Option Task → Type 0
+-- the words ask for no run of an image with ports
+abbrev pub IsAside : Option Job → Type 0
 IsAside None = Unit {0}
-IsAside (Some task) = runs_image task ≡ false
+IsAside (Some (OfInput task)) = runs_image task ≡ false
+IsAside (Some (Soak number)) = Unit {0}
 
 -- no port is asked or handed anything: the words ask for no run of an image, or the call was refused
-abbrev pub LeavesPorts : Option Task → Status → Type 0
+abbrev pub LeavesPorts : Option Job → Status → Type 0
 LeavesPorts wanted answer = IsAside wanted ⊎ IsRefusal answer
 
 -- the input spells a bundle that the task takes
@@ -118,15 +122,25 @@ Serves (OfJournal task) input = SpellsJournal task input
 
 -- nothing outside gives a cause for a refusal: the words ask for a task, no read or write fails, and the input is within
 -- the task's limit and one that it serves
-pub record HasNoCause (wanted : Option Task) (o : Outside) : Type 0 where
+pub record InputFits (wanted : Option Job) (o : Outside) : Type 0 where
   pub task : Task
-  pub asks : wanted ≡ Some task
+  pub asks : wanted ≡ Some (OfInput task)
   pub reads : Rose o.read_faults o.read_faults' → ⊥
   pub writes : Rose o.write_faults o.write_faults' → ⊥
   pub input : List ℕ
   pub told : o.left ≡ Some input
   pub within : length input ≤ limit_of task
   pub serves : Serves task input
+
+-- the same where the words ask for the run of a generated bundle
+pub record NumberFits (wanted : Option Job) (o : Outside) : Type 0 where
+  pub number : ℕ
+  pub asks : wanted ≡ Some (Soak number)
+  pub writes : Rose o.write_faults o.write_faults' → ⊥
+  pub fits : FitsFile (generated number)
+
+abbrev pub HasNoCause : Option Job → Outside → Type 0
+HasNoCause wanted o = InputFits wanted o ⊎ NumberFits wanted o
 
 -- the task was served and its whole text written; or memory was wanting
 abbrev pub IsServedOrFree : Status → Type 0

@@ -1,6 +1,8 @@
 -- Why a call has nothing to write.
 use Rattle.std.specs.Prelude.{◌≡◌, ℕ, List, Option, Some}
 use Rattle.micro_kit.specs.Streams.{Rose, GivesAtMost}
+use Rattle.commands.specs.declared.task.Job.{Job}
+use Rattle.commands.specs.declared.task.Job.TheVariants.{OfInput}
 use Rattle.commands.specs.declared.task.Task.{Task}
 use Rattle.micro_cli.specs.declared.command.Silence.{Silence}
 use Rattle.micro_cli.specs.declared.command.Silence.TheVariants as silence
@@ -12,7 +14,7 @@ FailsToRead task silence.ReadFault left left' faults faults' = Rose faults fault
 FailsToRead task silence.NoMemory left left' faults faults' = Unit {0}
 
 -- the same, the words asking for a task
-abbrev pub IsSilent : Silence → Option Task → Option (List ℕ) → Option (List ℕ) → ℕ → ℕ → Type 0
+abbrev pub IsSilent : Silence → Option Job → Option (List ℕ) → Option (List ℕ) → ℕ → ℕ → Type 0
 IsSilent silence.ReadFault wanted left left' faults faults' =
-    (task : Task) × (wanted ≡ Some task) × FailsToRead task silence.ReadFault left left' faults faults'
+    (task : Task) × (wanted ≡ Some (OfInput task)) × FailsToRead task silence.ReadFault left left' faults faults'
 IsSilent silence.NoMemory wanted left left' faults faults' = Unit {0}

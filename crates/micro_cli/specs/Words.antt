@@ -6,8 +6,11 @@ use Rattle.command_words.specs.declared.meaning.Verb.TheVariants as verb
 use Rattle.command_words.specs.declared.meaning.Turns.{Turns}
 use Rattle.command_words.specs.declared.meaning.Turns.TheVariants as turns
 use Rattle.command_words.specs.Meaning.{words_meaning}
+use Rattle.commands.specs.Tells.{IsBounded, RunsBy}
 use Rattle.commands.specs.declared.task.Order.{Order}
 use Rattle.commands.specs.declared.task.Order.TheVariants as order
+use Rattle.commands.specs.declared.task.Job.{Job}
+use Rattle.commands.specs.declared.task.Job.TheVariants.{OfInput, Soak}
 use Rattle.commands.specs.declared.task.Task.{Task}
 use Rattle.commands.specs.declared.task.Task.TheVariants.{OfBundle, OfImage, OfJournal}
 use Rattle.commands.specs.declared.task.BundleTask.TheVariants as bundle
@@ -20,7 +23,7 @@ order_for threads turns.Round = Some order.Round
 order_for true turns.Threads = Some order.Threads
 order_for false turns.Threads = None
 
--- the task of a command; generated bundles are still to come
+-- the task of a command that has an input
 abbrev pub task_for : Bool → Verb → Turns → ℕ → Option Task
 task_for threads verb.Run t steps = option_map (λ o. OfBundle (bundle.Run steps o)) (order_for threads t)
 task_for threads verb.Exec t steps = option_map (λ o. OfImage (image.Exec steps o)) (order_for threads t)
@@ -34,6 +37,24 @@ task_for threads _ _ steps = None
 abbrev pub task_of : Bool → Meaning → Option Task
 task_of threads m = task_for threads m.verb m.turns m.steps
 
--- the task that the words ask for; none where they mean nothing
-abbrev pub task_asked : Bool → List (List ℕ) → Option Task
-task_asked threads words = option_and_then (task_of threads) (words_meaning words)
+-- the bundle of a number is run by `soak`; another command has an input
+abbrev pub job_for : Bool → Meaning → Option ℕ → Option Job
+job_for threads m (Some number) = Some (Soak number)
+job_for threads m None = option_map (λ task. OfInput task) (task_of threads m)
+
+abbrev pub job_of : Bool → Meaning → Option Job
+job_of threads m = job_for threads m m.number
+
+-- the job that the words ask for; none where they mean nothing
+abbrev pub job_asked : Bool → List (List ℕ) → Option Job
+job_asked threads words = option_and_then (job_of threads) (words_meaning words)
+
+-- the steps of a job with an input are few enough; those of `soak` are what they are
+abbrev pub IsBoundedJob : Job → Type 0
+IsBoundedJob (OfInput task) = IsBounded task
+IsBoundedJob (Soak number) = Unit {0}
+
+-- the order of a job with an input is that of the runner at hand; `soak` has its own
+abbrev pub JobRunsBy : Bool → Job → Type 0
+JobRunsBy in_rounds (OfInput task) = RunsBy in_rounds task
+JobRunsBy in_rounds (Soak number) = Unit {0}

@@ -1,11 +1,10 @@
 ghost use Rattle.std.specs.Prelude.{◌≡◌, ◌≤◌, IfSome, false, length, map, string_bytes};
-ghost use Rattle.commands.specs.Tells.{IsBounded, RunsBy};
-ghost use Rattle.micro_cli.specs.Words.{task_asked};
+ghost use Rattle.micro_cli.specs.Words.{job_asked, IsBoundedJob, JobRunsBy};
 ghost use Rattle.micro_cli.specs.Calls.{Finishes, HasNoCause, IsServedOrFree, LeavesPorts, outside};
 
-use crate::command::{Silence, reply_to_task};
-use crate::words::task_asked;
-use commands::{Status, Task};
+use crate::command::{Silence, reply_to_job};
+use crate::words::job_asked;
+use commands::{Job, Status};
 use context_runner::{InRounds, Runner};
 use micro_isa::{MOST_PORTS, NoMemory};
 use micro_kit::{Sink, Source, write_all};
@@ -34,16 +33,16 @@ pub fn plain_call<I: Source, O: Sink>(
     ports: Vec<Box<dyn Port + Send>>,
 ) -> Finish
     requires few { length ports.items ≤ MOST_PORTS }
-    ensures finishes { Finishes result.status (task_asked false (map string_bytes words.now)) (outside I.left I.faults O.wrote O.faults ⟦<Box<dyn Port + Send> as Port>⟧.tells input.old input.new output.old output.new ports.items result.ports.items) }
+    ensures finishes { Finishes result.status (job_asked false (map string_bytes words.now)) (outside I.left I.faults O.wrote O.faults ⟦<Box<dyn Port + Send> as Port>⟧.tells input.old input.new output.old output.new ports.items result.ports.items) }
 
-    // Where nothing outside gives a cause for a refusal, the task is served and its whole text written.
-    ensures complete { HasNoCause (task_asked false (map string_bytes words.now)) (outside I.left I.faults O.wrote O.faults ⟦<Box<dyn Port + Send> as Port>⟧.tells input.old input.new output.old output.new ports.items result.ports.items) → IsServedOrFree result.status }
+    // Where nothing outside gives a cause for a refusal, the job is served and its whole text written.
+    ensures complete { HasNoCause (job_asked false (map string_bytes words.now)) (outside I.left I.faults O.wrote O.faults ⟦<Box<dyn Port + Send> as Port>⟧.tells input.old input.new output.old output.new ports.items result.ports.items) → IsServedOrFree result.status }
     ensures as_many { length result.ports.items ≡ length ports.items }
 
     // What runs no image, and what is refused, leaves each port as it was.
-    ensures untouched { LeavesPorts (task_asked false (map string_bytes words.now)) result.status → result.ports ≡ ports }
+    ensures untouched { LeavesPorts (job_asked false (map string_bytes words.now)) result.status → result.ports ≡ ports }
 {
-    match task_asked(alloc, words, false) {
+    match job_asked(alloc, words, false) {
         Ok(wanted) => {
             let (status, ports) = call(alloc, wanted, input, output, ports, &InRounds);
             Finish { status, ports }
@@ -55,18 +54,18 @@ pub fn plain_call<I: Source, O: Sink>(
     }
 }
 
-/// The same for the task that the words ask for, with a runner of its order.
+/// The same for the job that the words ask for, with a runner of its order.
 
 fn call<I: Source, O: Sink, P: Port + Send, X: Runner>(
     alloc: Global,
-    wanted: Option<Task>,
+    wanted: Option<Job>,
     input: &mut I,
     output: &mut O,
     ports: Vec<P>,
     runner: &X,
 ) -> (Status, Vec<P>)
-    requires bounded { IfSome wanted IsBounded }
-    requires order { IfSome wanted (RunsBy X.in_rounds) }
+    requires bounded { IfSome wanted IsBoundedJob }
+    requires order { IfSome wanted (JobRunsBy X.in_rounds) }
     requires few { length ports.items ≤ MOST_PORTS }
     ensures finishes { Finishes result.0 wanted (outside I.left I.faults O.wrote O.faults P.tells input.old input.new output.old output.new ports.items result.1.items) }
     ensures complete { HasNoCause wanted (outside I.left I.faults O.wrote O.faults P.tells input.old input.new output.old output.new ports.items result.1.items) → IsServedOrFree result.0 }
@@ -79,20 +78,20 @@ fn call<I: Source, O: Sink, P: Port + Send, X: Runner>(
 #[tactic(auto, using(crate::proofs::Finishing::written_whole, crate::proofs::Finishing::cut_short, crate::proofs::Finishing::not_read, crate::proofs::Finishing::no_memory))]
 fn serve<I: Source, O: Sink, P: Port + Send, X: Runner>(
     alloc: Global,
-    wanted: Option<Task>,
+    wanted: Option<Job>,
     input: &mut I,
     output: &mut O,
     ports: Vec<P>,
     runner: &X,
 ) -> (Status, Vec<P>)
-    requires bounded { IfSome wanted IsBounded }
-    requires order { IfSome wanted (RunsBy X.in_rounds) }
+    requires bounded { IfSome wanted IsBoundedJob }
+    requires order { IfSome wanted (JobRunsBy X.in_rounds) }
     requires few { length ports.items ≤ MOST_PORTS }
     ensures finishes { Finishes result.0 wanted (outside I.left I.faults O.wrote O.faults P.tells input.old input.new output.old output.new ports.items result.1.items) }
     ensures as_many { length result.1.items ≡ length ports.items }
     ensures untouched { LeavesPorts wanted result.0 → result.1 ≡ ports }
 {
-    let (reply, ports) = reply_to_task(alloc, wanted, input, ports, runner);
+    let (reply, ports) = reply_to_job(alloc, wanted, input, ports, runner);
     match reply {
         Ok(reply) => match write_all(output, &reply.text) {
             Ok(()) => (reply.status, ports),

@@ -6,6 +6,7 @@ ghost use Rattle.commands.specs.declared.status.Status.TheVariants as status;
 ghost use Rattle.micro_cli.specs.declared.command.Silence.TheVariants as silence;
 ghost use Rattle.micro_cli.specs.Answers.{Asks, AsksOfInput, Says};
 ghost use Rattle.micro_cli.specs.Calls.{IsAside};
+ghost use Rattle.micro_cli.specs.Words.{IsBoundedJob, JobRunsBy};
 ghost use Rattle.micro_cli.specs.Silences.{FailsToRead, IsSilent};
 ghost use Rattle.micro_cli.specs.Lines.{usage_line, limit_of, too_long_line};
 
@@ -13,7 +14,7 @@ use crate::bundle_replies::reply_to_text;
 use crate::image_replies::reply_to_image;
 use crate::journal_replies::reply_to_journal;
 use crate::lines::{limit_of, too_long, usage_line};
-use commands::{Reply, Status, Task};
+use commands::{Job, Reply, Status, Task, perform_soak};
 use context_runner::Runner;
 use micro_isa::{LONGEST_IMAGE, MOST_PORTS, NoMemory};
 use micro_kit::{ReadFault, Source, read_all};
@@ -27,17 +28,17 @@ pub(crate) enum Silence {
     NoMemory,
 }
 
-/// The reply to the task that the words ask for and to the input, and the ports.
-#[tactic(auto, using(crate::proofs::Replies::asks_of_usage, crate::proofs::Replies::asks_of_task, crate::proofs::Replies::silent_of_words))]
-pub(crate) fn reply_to_task<I: Source, P: Port + Send, X: Runner>(
+/// The reply to the job that the words ask for and to the input, and the ports.
+#[tactic(auto, using(crate::proofs::Replies::asks_of_usage, crate::proofs::Replies::asks_of_number, crate::proofs::Replies::asks_of_task, crate::proofs::Replies::silent_of_words))]
+pub(crate) fn reply_to_job<I: Source, P: Port + Send, X: Runner>(
     alloc: Global,
-    wanted: Option<Task>,
+    wanted: Option<Job>,
     input: &mut I,
     ports: Vec<P>,
     runner: &X,
 ) -> (Result<Reply, Silence>, Vec<P>)
-    requires bounded { IfSome wanted IsBounded }
-    requires order { IfSome wanted (RunsBy X.in_rounds) }
+    requires bounded { IfSome wanted IsBoundedJob }
+    requires order { IfSome wanted (JobRunsBy X.in_rounds) }
     requires few { length ports.items ≤ MOST_PORTS }
     ensures asks { IfOk result.0 (λ r. Asks r.status wanted (I.left input.old) (I.left input.new) (map P.tells ports.items) (map P.tells result.1.items) r.text.items) }
     ensures silent { IfErr result.0 (λ why. IsSilent why wanted (I.left input.old) (I.left input.new) (I.faults input.old) (I.faults input.new)) }
@@ -47,7 +48,11 @@ pub(crate) fn reply_to_task<I: Source, P: Port + Send, X: Runner>(
     ensures unread { IfErr result.0 (λ why. why ≡ silence.ReadFault → result.1 ≡ ports) }
 {
     match wanted {
-        Some(task) => reply_to_input(alloc, task, input, ports, runner),
+        Some(Job::OfInput(task)) => reply_to_input(alloc, task, input, ports, runner),
+        Some(Job::Soak { number }) => match perform_soak(alloc, number) {
+            Ok(reply) => (Ok(reply), ports),
+            Err(NoMemory) => (Err(Silence::NoMemory), ports),
+        },
         None => match usage(alloc) {
             Ok(reply) => (Ok(reply), ports),
             Err(NoMemory) => (Err(Silence::NoMemory), ports),

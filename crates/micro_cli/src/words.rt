@@ -2,28 +2,43 @@
 
 ghost use Rattle.std.specs.Prelude.{◌≡◌, ◌≤◌, IfOk, IfSome, map, string_bytes, true, false};
 ghost use Rattle.commands.specs.Tells.{IsBounded, RunsBy};
-ghost use Rattle.micro_cli.specs.Words.{order_for, task_of, task_asked};
+ghost use Rattle.micro_cli.specs.Words.{order_for, task_of, job_of, job_asked, IsBoundedJob, JobRunsBy};
 
 use command_words::{Meaning, Turns, Verb, read_words};
-use commands::{BundleTask, ImageTask, JournalTask, Order, Task};
+use commands::{BundleTask, ImageTask, Job, JournalTask, Order, Task};
 use micro_isa::NoMemory;
 use std::alloc::Global;
 
-/// The task that these words ask for, if they ask for one that there is. Threads are asked for only
+/// The job that these words ask for, if they ask for one that there is. Threads are asked for only
 /// where they are served.
-pub(crate) fn task_asked(
+pub(crate) fn job_asked(
     alloc: Global,
     words: &[String],
     threads: bool,
-) -> Result<Option<Task>, NoMemory>
-    ensures task { IfOk result (λ task. task ≡ task_asked threads (map string_bytes words.now)) }
-    ensures bounded { IfOk result (λ task. IfSome task IsBounded) }
-    ensures rounds { threads ≡ false → IfOk result (λ task. IfSome task (RunsBy true)) }
+) -> Result<Option<Job>, NoMemory>
+    ensures job { IfOk result (λ job. job ≡ job_asked threads (map string_bytes words.now)) }
+    ensures bounded { IfOk result (λ job. IfSome job IsBoundedJob) }
+    ensures rounds { threads ≡ false → IfOk result (λ job. IfSome job (JobRunsBy true)) }
 {
     match read_words(alloc, words) {
-        Ok(Some(meaning)) => Ok(task_of(&meaning, threads)),
+        Ok(Some(meaning)) => Ok(job_of(&meaning, threads)),
         Ok(None) => Ok(None),
         Err(NoMemory) => Err(NoMemory),
+    }
+}
+
+fn job_of(meaning: &Meaning, threads: bool) -> Option<Job>
+    requires { meaning.now.steps ≤ 1048576 }
+    ensures job { result ≡ job_of threads meaning.now }
+    ensures bounded { IfSome result IsBoundedJob }
+    ensures rounds { threads ≡ false → IfSome result (JobRunsBy true) }
+{
+    match meaning.number {
+        Some(number) => Some(Job::Soak { number }),
+        None => match task_of(meaning, threads) {
+            Some(task) => Some(Job::OfInput(task)),
+            None => None,
+        },
     }
 }
 
