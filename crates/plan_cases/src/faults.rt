@@ -1,7 +1,6 @@
-ghost use Rattle.std.specs.Prelude.{◌<◌, ◌≤◌, length};
 ghost use Rattle.flow_graph.specs.Paths.{IsClosedCode};
 
-use crate::walks::{SPLIT, bundle_of};
+use crate::bundles::{SPLIT, bundle_of, context_of};
 use flow_graph::Flow;
 use liveness::Live;
 use micro_isa::{List, Program, VReg};
@@ -61,11 +60,7 @@ fn plan_with(
 /// What `check_plan` tells of a plan for the split program.
 fn told(alloc: Global, plan: &Plan) -> Result<Option<PlanFault>, Fail> {
     let bundle = bundle_of(alloc, SPLIT)?;
-    let programs = bundle.programs.as_slice();
-    if programs.len() < 1 {
-        return Err("a context".into());
-    }
-    told_of(alloc, &programs[0], plan)
+    told_of(alloc, context_of(&bundle, 0)?, plan)
 }
 
 fn told_of(alloc: Global, program: &Program, plan: &Plan) -> Result<Option<PlanFault>, Fail>

@@ -1,20 +1,14 @@
-ghost use Rattle.std.specs.Prelude.{◌<◌, ◌≤◌, length, IfOk};
-ghost use Rattle.micro_isa.specs.Formed.{IsFormedBundle};
 ghost use Rattle.flow_graph.specs.Paths.{IsClosedCode};
 
-use asm_text::read_bundle;
+use crate::bundles::{SPLIT, bundle_of, context_of};
 use flow_graph::Flow;
 use liveness::Live;
-use micro_isa::{Bundle, Program};
+use micro_isa::Program;
 use plan::{Plan, check_plan};
 use point_walk::walk;
 use pressure::pressures;
 use std::alloc::Global;
 use std::test::Fail;
-
-/// Two edges that leave a branch for one target.
-pub(crate) const SPLIT: &[u8] =
-    b"file 3\noutput out\ncontext a\nli x, 5\nyield\nli y, 9\nbeq x, y, next\nnext:\nyield\nsend out, y\nhalt\n";
 
 /// An instruction that no path reaches.
 const UNREACHABLE: &[u8] =
@@ -31,16 +25,6 @@ const FRAME: &[u8] =
 
 const HANDOFF: &[u8] =
     b"file 16\nmemory 4\ninput rx\nwords rx 0x4500 0x0054\ninner ring 2\noutput tx\ncontext receiver\nli left, 4\nli one, 1\nnext:\nrecv word, rx\nsend ring, word\nsub left, left, one\nbne left, zero, next\nhalt\ncontext transmitter\nli left, 4\nli one, 1\nli place, 2\nnext:\nrecv word, ring\nload seen, place\nadd seen, seen, one\nstore place, seen\nsend tx, word\nsub left, left, one\nbne left, zero, next\nhalt\n";
-
-pub(crate) fn bundle_of(alloc: Global, text: &[u8]) -> Result<Bundle, Fail>
-    requires { length text.now ≤ 2097152 }
-    ensures { IfOk result IsFormedBundle }
-{
-    match read_bundle(alloc, text) {
-        Ok(bundle) => Ok(bundle),
-        Err(_) => Err("a text without a fault".into()),
-    }
-}
 
 /// The walk of a program at sizes so much above its pressures; `check_plan` must accept it.
 fn walk_of(alloc: Global, program: &Program, more: (u8, u8)) -> Result<Plan, Fail>
@@ -62,15 +46,9 @@ fn walk_of(alloc: Global, program: &Program, more: (u8, u8)) -> Result<Plan, Fai
 }
 
 /// The walk of context `c`.
-fn walk_in(alloc: Global, text: &[u8], c: usize, more: (u8, u8)) -> Result<Plan, Fail>
-    requires { length text.now ≤ 2097152 }
-{
+fn walk_in(alloc: Global, text: &[u8], c: usize, more: (u8, u8)) -> Result<Plan, Fail> {
     let bundle = bundle_of(alloc, text)?;
-    let programs = bundle.programs.as_slice();
-    if programs.len() <= c {
-        return Err("a context of this number".into());
-    }
-    walk_of(alloc, &programs[c], more)
+    walk_of(alloc, context_of(&bundle, c)?, more)
 }
 
 /// The rows of a plan: `register@place` for each entry, `>place` for a write, a `;` behind each row.

@@ -1,0 +1,165 @@
+//! Pressures, regions and live registers of known programs; the text of `check`.
+
+ghost use Rattle.flow_graph.specs.Paths.{IsClosedCode};
+
+use crate::bundles::{SPLIT, bundle_of, context_of};
+use flow_graph::Flow;
+use liveness::Live;
+use micro_isa::{List, Next, Program};
+use pressure::{Pressure, Regions, boundaries, need, pressures};
+use report_check::print_check;
+use std::alloc::Global;
+use std::test::Fail;
+
+/// A context that fills its file: the sum of two numbers is sent.
+const FULL: &[u8] =
+    b"file 2\noutput out\ncontext a\nli x, 2\nli y, 3\nadd x, x, y\nsend out, x\nhalt\n";
+
+/// Two contexts with a number that is kept over a yield, and one that is not.
+const SHARED: &[u8] =
+    b"file 3\noutput out\ncontext a\nli x, 7\nyield\nli y, 1\nadd x, x, y\nsend out, x\nhalt\ncontext b\nli x, 7\nyield\nli y, 1\nadd x, x, y\nsend out, x\nhalt\n";
+
+/// A received word is sent on.
+const RELAY: &[u8] = b"file 1\ninput in\noutput out\ncontext a\nrecv x, in\nsend out, x\nhalt\n";
+
+/// Instructions that no path reaches.
+const LOST: &[u8] =
+    b"file 1\ncontext a\njmp end\nli x, 1\nyield\nend: halt\ncontext b\nhalt\njmp self\nself: halt\n";
+
+/// An instruction that no path reaches.
+const UNREACHABLE: &[u8] = b"file 1\ncontext a\njmp end\nli x, 1\nend: halt\n";
+
+/// Sixteen received words are counted in memory and sent on.
+const FORWARDER: &[u8] =
+    b"file 25\nmemory 64\ninput in\noutput out\ncontext a\nli left, 16\nli one, 1\nli mask, 63\nnext: recv word, in\nand place, word, mask\nload seen, place\nadd seen, seen, one\nstore place, seen\nshl word, word, one\nsend out, word\nsub left, left, one\nbne left, zero, next\nhalt\n";
+
+/// The pressures of a text's first context, and its number of regions.
+fn pressure_in(alloc: Global, text: &[u8]) -> Result<(Pressure, u32), Fail> {
+    let bundle = bundle_of(alloc, text)?;
+    pressure_of(alloc, context_of(&bundle, 0)?)
+}
+
+fn pressure_of(alloc: Global, program: &Program) -> Result<(Pressure, u32), Fail>
+    requires { IsClosedCode program.now.code }
+{
+    let flow = Flow::of(alloc, program)?;
+    let live = Live::of(alloc, program, &flow)?;
+    let regions = Regions::of(alloc, program, &flow)?;
+    Ok((pressures(program, &live), regions.count()))
+}
+
+#[test]
+fn pressures_of_known_programs(rt: HostRuntime) -> Result<(), Fail> {
+    let rows = [
+        (FULL, 0, 2, 2),
+        (SHARED, 1, 2, 3),
+        (SPLIT, 1, 2, 4),
+        (RELAY, 0, 1, 3),
+        (UNREACHABLE, 0, 1, 1),
+        (FORWARDER, 6, 7, 4),
+    ];
+    for (text, private, all, regions) in &rows {
+        let (found, count) = pressure_in(rt.alloc(), text)?;
+        assert!(rt; (found.private, found.all, count) == (*private, *all, *regions));
+    }
+    Ok(())
+}
+
+/// The registers that live before instruction `at` of a text's first context and behind it, as sets of bits.
+fn live_at(alloc: Global, text: &[u8], at: u32) -> Result<(u128, u128), Fail> {
+    let bundle = bundle_of(alloc, text)?;
+    let program = context_of(&bundle, 0)?;
+    if program.code.len() <= at as usize {
+        return Err("an instruction of this number".into());
+    }
+    let flow = Flow::of(alloc, program)?;
+    let live = Live::of(alloc, program, &flow)?;
+    Ok((live.live_in(at), live.live_out(at)))
+}
+
+#[test]
+fn live_registers_of_known_programs(rt: HostRuntime) -> Result<(), Fail> {
+    for (text, at, sets) in &[(FULL, 2, (3, 1)), (FORWARDER, 11, (71, 71))] {
+        assert!(rt; live_at(rt.alloc(), text, *at)? == *sets);
+    }
+    Ok(())
+}
+
+/// Where instruction `at` of a text's first context leads, and whether it is reached.
+fn flow_at(alloc: Global, text: &[u8], at: u32) -> Result<(Next, bool), Fail> {
+    let bundle = bundle_of(alloc, text)?;
+    let program = context_of(&bundle, 0)?;
+    if program.code.len() <= at as usize {
+        return Err("an instruction of this number".into());
+    }
+    let flow = Flow::of(alloc, program)?;
+    Ok((flow.successors_of(at), flow.reachable(at)))
+}
+
+#[test]
+fn successors_of_known_programs(rt: HostRuntime) -> Result<(), Fail> {
+    let rows = [
+        (SPLIT, 3, Some(4), Some(4), true),
+        (UNREACHABLE, 1, Some(2), None, false),
+        (FORWARDER, 11, Some(12), Some(3), true),
+    ];
+    for (text, at, fall, jump, reached) in &rows {
+        let (next, is_reached) = flow_at(rt.alloc(), text, *at)?;
+        assert!(rt; (next.fall, next.jump, is_reached) == (*fall, *jump, *reached));
+    }
+    Ok(())
+}
+
+/// The region of instruction `at` of a text's first context, and where that one may lose the engine.
+fn regions_at(alloc: Global, text: &[u8], at: u32) -> Result<(u32, List<u32>), Fail> {
+    let bundle = bundle_of(alloc, text)?;
+    let program = context_of(&bundle, 0)?;
+    if program.code.len() <= at as usize {
+        return Err("an instruction of this number".into());
+    }
+    let flow = Flow::of(alloc, program)?;
+    let regions = Regions::of(alloc, program, &flow)?;
+    Ok((regions.region_of(at), boundaries(alloc, program)?))
+}
+
+#[test]
+fn regions_of_known_programs(rt: HostRuntime) -> Result<(), Fail> {
+    let (_first, ends) = regions_at(rt.alloc(), FULL, 2)?;
+    assert!(rt; ends.as_slice() == [3].as_slice());
+    let (region, ends) = regions_at(rt.alloc(), SHARED, 4)?;
+    assert!(rt; region == 1 && ends.as_slice() == [1, 4].as_slice());
+    Ok(())
+}
+
+#[test]
+fn needs_of_known_bundles(rt: HostRuntime) {
+    let shared = Pressure { private: 1, all: 2 };
+    assert!(rt; need(&[shared, shared]) == 3);
+    let forwarder = Pressure { private: 6, all: 7 };
+    assert!(rt; need(&[forwarder, forwarder, forwarder, forwarder]) == 25);
+}
+
+/// The text of `check` for the bundle of a text.
+fn checked(alloc: Global, text: &[u8]) -> Result<Vec<u8>, Fail> {
+    let bundle = bundle_of(alloc, text)?;
+    Ok(print_check(alloc, &bundle)?)
+}
+
+#[test]
+fn texts_of_known_bundles(rt: HostRuntime) -> Result<(), Fail> {
+    let rows = [
+        (
+            SHARED,
+            b"context 0 private 1 all 2 regions 3\ncontext 1 private 1 all 2 regions 3\nneed 3 file 3\n".as_slice(),
+        ),
+        (
+            LOST,
+            b"context 0 private 0 all 1 regions 2\nunreachable 0 4\nunreachable 0 5\ncontext 1 private 0 all 0 regions 2\nunreachable 1 9\nunreachable 1 10\nneed 1 file 1\n",
+        ),
+    ];
+    for (text, wanted) in &rows {
+        let told = checked(rt.alloc(), text)?;
+        assert!(rt; told.as_slice() == *wanted);
+    }
+    Ok(())
+}
