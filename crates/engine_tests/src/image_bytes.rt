@@ -1,6 +1,10 @@
 //! The bytes of an image, both ways; what is told of each of its fronts and of bytes that were changed.
 
+ghost use Rattle.std.specs.Prelude.{IfOk};
+ghost use Rattle.micro_isa.specs.Formed.{IsFormedImage};
+
 use image_load::{ImageFault, ImageKind, read_image, write_image};
+use micro_isa::Image;
 use std::alloc::Global;
 use std::test::Fail;
 
@@ -62,13 +66,34 @@ fn told(alloc: Global, bytes: &[u8]) -> Option<(u32, ImageKind)> {
     }
 }
 
+/// The image that at most 200 bytes spell.
+pub(crate) fn image_in(alloc: Global, bytes: &[u8]) -> Result<Image, Fail>
+    ensures { IfOk result IsFormedImage }
+{
+    if bytes.len() > 200 {
+        return Err("few bytes".into());
+    }
+    match read_image(alloc, bytes) {
+        Ok(image) => Ok(image),
+        Err(_) => Err("bytes without a fault".into()),
+    }
+}
+
+/// The bytes of an image.
+fn bytes_of(alloc: Global, image: &Image) -> Result<Vec<u8>, Fail>
+    requires { IsFormedImage image.now }
+{
+    match write_image(alloc, image) {
+        Ok(bytes) => Ok(bytes),
+        Err(_) => Err("ample memory".into()),
+    }
+}
+
 #[test]
 fn one_image_both_ways(rt: HostRuntime) -> Result<(), Fail> {
-    let image = read_image(rt.alloc(), &ADDING)?;
-    assert_eq!(rt; image.file, 2);
-    assert_eq!(rt; image.contexts.len(), 1);
-    assert!(rt; image.is_formed());
-    let bytes = write_image(rt.alloc(), &image)?;
+    let image = image_in(rt.alloc(), &ADDING)?;
+    assert!(rt; image.file == 2 && image.contexts.len() == 1 && image.is_formed());
+    let bytes = bytes_of(rt.alloc(), &image)?;
     assert!(rt; bytes.as_slice() == ADDING.as_slice());
     Ok(())
 }
@@ -81,13 +106,19 @@ fn a_front_is_short_at_its_end(rt: HostRuntime) {
     }
 }
 
+/// The bytes with one that is changed.
+fn changed(place: usize, byte: u8) -> [u8; 96] {
+    let mut bytes = ADDING;
+    if place < 96 {
+        bytes[place] = byte;
+    }
+    bytes
+}
+
 #[test]
 fn a_changed_byte_is_told(rt: HostRuntime) {
-    for (place, byte, fault) in CHANGES.iter() {
-        let mut bytes = ADDING;
-        if *place < 96 {
-            bytes[*place] = *byte;
-        }
+    for (place, byte, fault) in &CHANGES {
+        let bytes = changed(*place, *byte);
         assert!(rt; told(rt.alloc(), &bytes) == *fault);
     }
 }

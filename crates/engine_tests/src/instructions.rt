@@ -1,6 +1,7 @@
 //! What each instruction does.
 
-use crate::agreement::{Case, Expected, holds, words_of};
+use crate::cases::{Expected, Last, holds, words_of};
+use std::alloc::Global;
 use std::test::Fail;
 use world::{End, Event, Phase, SegmentEnd, Trap};
 
@@ -58,107 +59,87 @@ on:\n\
 send ring, z\nrecv w, ring\nsend out, w\n\
 halt\n";
 
-#[test]
-fn each_instruction(rt: HostRuntime) -> Result<(), Fail> {
-    let sums = words_of(rt.alloc(), ARITHMETIC)?;
-    let wanted = [
-        1,
-        4_294_967_295,
-        131_073,
-        8,
-        14,
-        6,
-        2_147_483_648,
-        3,
-        6,
-        1,
-        6,
-        3,
-        1,
-        0,
-        1,
-        0,
-        2_147_483_647,
-        3,
-    ];
-    assert!(rt; sums.as_slice() == wanted.as_slice());
-    let branches = words_of(rt.alloc(), BRANCHES)?;
-    let wanted = [1, 7, 7, 1, 7, 1, 1, 1, 7, 7];
-    assert!(rt; branches.as_slice() == wanted.as_slice());
-    let others = words_of(rt.alloc(), OTHERS)?;
-    assert!(rt; others.as_slice() == [0, 3, 9, 9].as_slice());
-    Ok(())
-}
-
-/// The phase of a context whose instruction on the fifth line divided by 0.
-const DIVIDED: Phase = Phase::Trapped {
-    trap: Trap::Divide,
-    line: 5,
-};
-
-/// The phase of a context whose instruction on the fifth line met an address outside memory.
-const OUTSIDE: Phase = Phase::Trapped {
-    trap: Trap::Address,
-    line: 5,
-};
-
-const DIVIDE: SegmentEnd = SegmentEnd::Trap(Trap::Divide);
-
-const ADDRESS: SegmentEnd = SegmentEnd::Trap(Trap::Address);
-
-/// Contexts that trap at their second instruction.
-const TRAPS: [Case; 5] = [
-    Case {
-        text: b"file 9\nmemory 4\ncontext a\nli x, 4\ndiv x, x, y\nhalt\n",
-        bound: 100,
-        events: &[(Event::Run(0), Expected::Ran(2, DIVIDE, None))],
-        memory: &[0, 0, 0, 0],
-        queued: 0,
-        phases: &[DIVIDED],
-        ending: Some(End::Finished),
-    },
-    Case {
-        text: b"file 9\nmemory 4\ncontext a\nli x, 4\nrem x, x, y\nhalt\n",
-        bound: 100,
-        events: &[(Event::Run(0), Expected::Ran(2, DIVIDE, None))],
-        memory: &[0, 0, 0, 0],
-        queued: 0,
-        phases: &[DIVIDED],
-        ending: Some(End::Finished),
-    },
-    Case {
-        text: b"file 9\nmemory 4\ncontext a\nli x, 4\nload x, x\nhalt\n",
-        bound: 100,
-        events: &[(Event::Run(0), Expected::Ran(2, ADDRESS, None))],
-        memory: &[0, 0, 0, 0],
-        queued: 0,
-        phases: &[OUTSIDE],
-        ending: Some(End::Finished),
-    },
-    Case {
-        text: b"file 9\nmemory 4\ncontext a\nli x, 4294967295\nload x, x\nhalt\n",
-        bound: 100,
-        events: &[(Event::Run(0), Expected::Ran(2, ADDRESS, None))],
-        memory: &[0, 0, 0, 0],
-        queued: 0,
-        phases: &[OUTSIDE],
-        ending: Some(End::Finished),
-    },
-    Case {
-        text: b"file 9\nmemory 4\ncontext a\nli x, 4\nstore x, x\nhalt\n",
-        bound: 100,
-        events: &[(Event::Run(0), Expected::Ran(2, ADDRESS, None))],
-        memory: &[0, 0, 0, 0],
-        queued: 0,
-        phases: &[OUTSIDE],
-        ending: Some(End::Finished),
-    },
+/// Texts, each with the words that it puts out.
+const PROGRAMS: [(&[u8], &[u32]); 3] = [
+    (
+        ARITHMETIC,
+        &[
+            1,
+            4_294_967_295,
+            131_073,
+            8,
+            14,
+            6,
+            2_147_483_648,
+            3,
+            6,
+            1,
+            6,
+            3,
+            1,
+            0,
+            1,
+            0,
+            2_147_483_647,
+            3,
+        ],
+    ),
+    (BRANCHES, &[1, 7, 7, 1, 7, 1, 1, 1, 7, 7]),
+    (OTHERS, &[0, 3, 9, 9]),
 ];
 
 #[test]
+fn each_instruction(rt: HostRuntime) -> Result<(), Fail> {
+    for (text, wanted) in &PROGRAMS {
+        let words = words_of(rt.alloc(), text)?;
+        assert!(rt; words.as_slice() == *wanted);
+    }
+    Ok(())
+}
+
+/// Contexts that trap at their second instruction, which stands on the fifth line.
+const TRAPS: [(&[u8], Trap); 5] = [
+    (
+        b"file 9\nmemory 4\ncontext a\nli x, 4\ndiv x, x, y\nhalt\n",
+        Trap::Divide,
+    ),
+    (
+        b"file 9\nmemory 4\ncontext a\nli x, 4\nrem x, x, y\nhalt\n",
+        Trap::Divide,
+    ),
+    (
+        b"file 9\nmemory 4\ncontext a\nli x, 4\nload x, x\nhalt\n",
+        Trap::Address,
+    ),
+    (
+        b"file 9\nmemory 4\ncontext a\nli x, 4294967295\nload x, x\nhalt\n",
+        Trap::Address,
+    ),
+    (
+        b"file 9\nmemory 4\ncontext a\nli x, 4\nstore x, x\nhalt\n",
+        Trap::Address,
+    ),
+];
+
+/// Whether the first context of a text traps so at its second instruction, on the fifth line.
+fn traps_so(alloc: Global, text: &[u8], trap: Trap) -> Result<bool, Fail> {
+    let rows = [(
+        Event::Run(0),
+        Expected::Ran(2, SegmentEnd::Trap(trap), None),
+    )];
+    let last = Last {
+        memory: &[0, 0, 0, 0],
+        queued: 0,
+        phases: &[Phase::Trapped { trap, line: 5 }],
+        ending: Some(End::Finished),
+    };
+    holds(alloc, text, 100, &rows, &last)
+}
+
+#[test]
 fn each_trap(rt: HostRuntime) -> Result<(), Fail> {
-    for case in TRAPS {
-        assert!(rt; holds(rt.alloc(), case)?);
+    for (text, trap) in &TRAPS {
+        assert!(rt; traps_so(rt.alloc(), text, *trap)?);
     }
     Ok(())
 }

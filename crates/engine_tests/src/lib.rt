@@ -4,11 +4,13 @@
 #![tactic(auto)]
 
 #[cfg(test)]
-mod agreement;
+mod cases;
 #[cfg(test)]
 mod image_bytes;
 #[cfg(test)]
 mod instructions;
+#[cfg(test)]
+mod pair;
 #[cfg(test)]
 mod schedules;
 #[cfg(test)]

@@ -1,8 +1,8 @@
 //! Bundles whose contexts share registers, and whose images move them.
 
-use crate::agreement::{follow, words_of};
-use allocate::{AllocFault, allocate};
-use asm_text::read_bundle;
+use crate::cases::{follow, words_of};
+use crate::pair::{bundle_of, need_of};
+use allocate::AllocFault;
 use std::alloc::Global;
 use std::test::Fail;
 
@@ -30,26 +30,24 @@ const EIGHT: &[u8] =
 fn allocated(alloc: Global, head: &[u8]) -> Result<Result<u32, AllocFault>, Fail> {
     let mut text = Vec::from_slice(alloc, head)?;
     text.extend_from_slice(EIGHT)?;
-    if text.len() > 4096 {
-        return Err(Fail::from("the case is too large"));
-    }
-    let Ok(bundle) = read_bundle(alloc, text.as_slice()) else {
-        return Err(Fail::from("the text is no bundle"));
-    };
-    match allocate(alloc, &bundle) {
-        Ok(allocation) => Ok(Ok(allocation.need)),
-        Err(fault) => Ok(Err(fault)),
-    }
+    let bundle = bundle_of(alloc, text.as_slice())?;
+    Ok(need_of(alloc, &bundle))
 }
 
-/// The source and the image of moved registers agree in each order, under each bound.
+/// The source and the image agree in each order, under each bound.
 #[test]
-fn agrees_where_registers_move(rt: HostRuntime) -> Result<(), Fail> {
+fn agrees_in_each_order(rt: HostRuntime) -> Result<(), Fail> {
     for bound in 0..15u32 {
         for order in &ORDERS {
             follow(rt.alloc(), SPLIT, bound, order.as_slice())?;
         }
     }
+    Ok(())
+}
+
+/// They agree where registers exchange their places, under each bound.
+#[test]
+fn agrees_where_registers_move(rt: HostRuntime) -> Result<(), Fail> {
     for bound in 0..24u32 {
         follow(rt.alloc(), EXCHANGE, bound, &[0, 0, 0])?;
     }
@@ -61,8 +59,12 @@ fn agrees_where_registers_move(rt: HostRuntime) -> Result<(), Fail> {
 /// Eight contexts fit the file that is their need, and none that is smaller.
 #[test]
 fn fits_exactly(rt: HostRuntime) -> Result<(), Fail> {
-    assert!(rt; allocated(rt.alloc(), b"file 9\n")? == Ok(9));
-    let refused = Err(AllocFault::NoFit { need: 9, file: 8 });
-    assert!(rt; allocated(rt.alloc(), b"file 8\n")? == refused);
+    let rows = [
+        (b"file 9\n", Ok(9)),
+        (b"file 8\n", Err(AllocFault::NoFit { need: 9, file: 8 })),
+    ];
+    for (head, told) in &rows {
+        assert!(rt; allocated(rt.alloc(), *head)? == *told);
+    }
     Ok(())
 }

@@ -1,126 +1,73 @@
-//! Words that are not counted, in an image built by hand.
+//! Words that are not counted, in an image whose bytes were written by hand.
 
+ghost use Rattle.std.specs.Prelude.{◌≤◌};
+
+use crate::image_bytes::image_in;
 use engine_core::Engine;
-use micro_isa::{Channel, Code, Image, Instr, List, NoMemory, PReg, Range, Setting, Test, Word};
 use run_state::Interpreter;
 use std::alloc::Global;
 use std::test::Fail;
 use world::{End, Event, Output, Segment, SegmentEnd};
 
-const A: PReg = PReg(0);
-
-const B: PReg = PReg(1);
-
-const NONE: Range = Range { start: 0, size: 0 };
-
-/// A word, and whether it is counted.
-type Part = (Instr<PReg>, bool);
-
 /// A word is brought from one register to the other, behind a jump, and sent.
-const FORWARDING: [Part; 7] = [
-    (Instr::Li { to: A, n: 5 }, true),
-    (
-        Instr::Branch {
-            test: Test::Eq,
-            a: A,
-            b: A,
-            target: 3,
-        },
-        true,
-    ),
-    (Instr::Halt, true),
-    (Instr::Mov { to: B, from: A }, false),
-    (Instr::Jmp { target: 5 }, false),
-    (
-        Instr::Send {
-            channel: 0,
-            from: B,
-        },
-        true,
-    ),
-    (Instr::Halt, true),
+const FORWARDING: [u8; 120] = [
+    0x55, 0x52, 0x45, 0x47, 1, 0, 1, 0, 2, 0, 1, 0, 0, 0, 0, 0, 0, 0, 0, 0, // header
+    2, 0xff, 0, 0, 0, 0, 0, 0, // channel 0: an output
+    0, 0, 2, 0, 7, 0, 0, 0, // context 0: both registers are its own
+    0x81, 0, 0, 0, 5, 0, 0, 0, 1, 0, 0, 0, // li
+    0x91, 0, 0, 0, 3, 0, 0, 0, 2, 0, 0, 0, // beq to word 3
+    0x9a, 0, 0, 0, 0, 0, 0, 0, 3, 0, 0, 0, // halt
+    0x02, 1, 0, 0, 0, 0, 0, 0, 0, 0, 0, 0, // mov, not counted
+    0x10, 0, 0, 0, 5, 0, 0, 0, 0, 0, 0, 0, // jmp to word 5, not counted
+    0x99, 0, 1, 0, 0, 0, 0, 0, 6, 0, 0, 0, // send
+    0x9a, 0, 0, 0, 0, 0, 0, 0, 7, 0, 0, 0, // halt
 ];
 
-/// A list with one item more.
-fn with<T: Drop>(mut list: List<T>, item: T) -> Result<List<T>, NoMemory> {
-    match list.push(item) {
-        Ok(()) => Ok(list),
-        Err(_) => Err(NoMemory),
-    }
-}
-
-/// An image of one context over a file of two registers, of which so many are its own.
-fn image_of(alloc: Global, own: u32, parts: &[Part]) -> Result<Image, NoMemory> {
-    let mut words = List::new(alloc);
-    let mut line = 1u32;
-    for (instr, counted) in parts {
-        let word = Word {
-            instr: *instr,
-            counted: *counted,
-            line,
-        };
-        words = with(words, word)?;
-        line = line.saturating_add(1);
-    }
-    let code = Code {
-        private: Range {
-            start: 0,
-            size: own,
-        },
-        words,
-    };
-    Ok(Image {
-        file: 2,
-        setting: Setting {
-            memory: 0,
-            channels: with(List::new(alloc), Channel::Output { port: None })?,
-        },
-        shared: NONE,
-        contexts: with(List::new(alloc), code)?,
-    })
-}
-
-fn opened(alloc: Global, bound: u32) -> Result<Engine, Fail> {
-    let image = image_of(alloc, 2, &FORWARDING)?;
-    if !image.is_formed() || bound > 1_048_576 {
-        return Err(Fail::from("the image is not formed"));
-    }
-    Ok(Engine::open(alloc, &image, bound)?)
+fn opened(alloc: Global, bound: u32) -> Result<Engine, Fail>
+    requires { bound ≤ 100 }
+{
+    let image = image_in(alloc, &FORWARDING)?;
+    Ok(Engine::of(alloc, image, bound)?)
 }
 
 fn turn(engine: &mut Engine) -> Result<Segment, Fail> {
     match engine.illegal(Event::Run(0)) {
         None => Ok(engine.segment(0)),
-        Some(_) => Err(Fail::from("the context may not run")),
+        Some(_) => Err("the context may run".into()),
     }
+}
+
+/// Whether a first turn took so many steps and ended so.
+fn turned(segment: &Segment, steps: u32, end: SegmentEnd) -> bool {
+    segment.steps == steps && segment.end == end
+}
+
+fn is_cut(engine: &Engine) -> bool {
+    engine.file() == [5, 5].as_slice() && engine.ending() == Some(End::Bound)
 }
 
 #[test]
 fn glue_is_done_at_the_bound(rt: HostRuntime) -> Result<(), Fail> {
     let mut engine = opened(rt.alloc(), 2)?;
     let cut = turn(&mut engine)?;
-    assert_eq!(rt; cut.steps, 2);
-    assert_eq!(rt; cut.end, SegmentEnd::Bound);
-    assert!(rt; engine.file() == [5, 5].as_slice());
-    assert_eq!(rt; engine.ending(), Some(End::Bound));
+    assert!(rt; turned(&cut, 2, SegmentEnd::Bound));
+    assert!(rt; is_cut(&engine));
     Ok(())
 }
+
+/// What the second turn puts out.
+const SENT: Output = Output {
+    channel: 0,
+    word: 5,
+};
 
 #[test]
 fn glue_spends_no_step(rt: HostRuntime) -> Result<(), Fail> {
     let mut engine = opened(rt.alloc(), 100)?;
     let sends = turn(&mut engine)?;
-    assert_eq!(rt; sends.steps, 3);
-    assert_eq!(rt; sends.end, SegmentEnd::Send);
     let halts = turn(&mut engine)?;
-    assert_eq!(rt; halts.steps, 1);
-    assert_eq!(rt;
-        halts.sent,
-        Some(Output {
-            channel: 0,
-            word: 5
-        })
-    );
-    assert_eq!(rt; engine.ending(), Some(End::Finished));
+    assert!(rt; turned(&sends, 3, SegmentEnd::Send));
+    assert!(rt; turned(&halts, 1, SegmentEnd::Halt));
+    assert!(rt; halts.sent == Some(SENT) && engine.ending() == Some(End::Finished));
     Ok(())
 }
