@@ -5,4 +5,5 @@ pub mod Labelling
 pub mod Naming
 pub mod Numbering
 pub mod Ordering
+pub mod Outlining
 pub mod Steps

@@ -1,51 +1,79 @@
 -- One line further in a context.
-use Rattle.std.proofs.Common.{◌≡◌, ◌++◌, ◌≤◌, ◌<◌, ℕ, ◌+◌, List, length, take, drop, get_or, None, sym, ap, ◌∙◌, subst, Bool, true, false, arith, append_assoc}
+use Rattle.std.proofs.Common.{◌≡◌, ◌++◌, ◌≤◌, ◌<◌, ℕ, ◌+◌, List, [], ◌∷◌, length, None, refl, sym, ap, ◌∙◌, subst, Bool, true, false, arith, append_assoc, append-nil}
 use Rattle.micro_isa.specs.declared.program.Line.{Line}
 use Rattle.asm_lines.specs.declared.fault.BundleFault.{BundleFault}
-use Rattle.asm_lines.specs.Cutting.{Words, TextLine}
+use Rattle.asm_lines.specs.Cutting.{TextLine}
 use Rattle.asm_lines.specs.Faults.{at_or, Causes}
 use Rattle.asm_lines.proofs.Causing.{caused}
-use Rattle.asm_lines.proofs.Rows.{on, so_far, fold-snoc}
-use Rattle.asm_context.specs.Said.{Said, nothing, with_line, said_by, count}
-use Rattle.asm_context.specs.Faults.{Channels, line_fault, faults_after}
+use Rattle.asm_lines.proofs.Rows.{fold-snoc}
+use Rattle.asm_context.specs.Forms.{does}
+use Rattle.asm_context.specs.Said.{Said, nothing, with_line, line_body, said_by, outline, count}
+use Rattle.asm_context.specs.Faults.{Channels, line_fault, faults_after, lines_fault}
 use Rattle.asm_context.specs.Programs.{line_code, code_after, code_of}
-
-pub said_more : (rows : List TextLine) (i : ℕ) (x : TextLine) → i < length rows → x ≡ get_or rows i x → said_by (take (i + 1) rows) ≡ with_line (said_by (take i rows)) x
-said_more rows i x lt e = ap said_by (so_far rows i x lt e) ∙ fold-snoc with_line nothing (take i rows) x
-
-faults_on : (chs : Channels) (all : Said) (rows : List TextLine) (i : ℕ) (x : TextLine) → i < length rows → x ≡ get_or rows i x → faults_after chs all (take i rows) (drop i rows) ≡ at_or x.number (line_fault chs (said_by (take i rows)) all x) (faults_after chs all (take (i + 1) rows) (drop (i + 1) rows))
-faults_on chs all rows i x lt e =
-    ap (faults_after chs all (take i rows)) (on rows i x lt e)
-    ∙ ap (λ b. at_or x.number (line_fault chs (said_by (take i rows)) all x) (faults_after chs all b (drop (i + 1) rows))) (sym (so_far rows i x lt e))
-
-code_on : (names : Words) (all : Said) (rows : List TextLine) (i : ℕ) (x : TextLine) → i < length rows → x ≡ get_or rows i x → code_after names all (take i rows) (drop i rows) ≡ line_code names (said_by (take i rows)) all x ++ code_after names all (take (i + 1) rows) (drop (i + 1) rows)
-code_on names all rows i x lt e =
-    ap (code_after names all (take i rows)) (on rows i x lt e)
-    ∙ ap (λ b. line_code names (said_by (take i rows)) all x ++ code_after names all b (drop (i + 1) rows)) (sym (so_far rows i x lt e))
 
 pub count_le : (b : Bool) → count b ≤ 1
 count_le true = omega arith
 count_le false = omega arith
 
-same_fault : (chs : Channels) (rows : List TextLine) (i : ℕ) (x : TextLine) (old all : Said) → old ≡ said_by (take i rows) → all ≡ said_by rows → line_fault chs (said_by (take i rows)) (said_by rows) x ≡ line_fault chs old all x
-same_fault chs rows i x old all o a = ap (λ s. line_fault chs s (said_by rows) x) (sym o) ∙ ap (λ s. line_fault chs old s x) (sym a)
+-- as far as the lines of a context were read
+pub record IsRead (chs : Channels) (noted : Said) (made : List Line) (left whole : List TextLine) : Type 0 where
+  pub before : List TextLine
+  pub parts : before ++ left ≡ whole
+  pub said : noted ≡ said_by before
+  pub few : noted.done + length left ≤ length whole
+  pub faults : faults_after chs (said_by whole) before left ≡ lines_fault chs whole
+  pub code : made ++ code_after chs.names (said_by whole) before left ≡ code_of chs.names whole
+
+same_fault : (chs : Channels) (whole before : List TextLine) (x : TextLine) (old all : Said) → old ≡ said_by before → all ≡ outline (said_by whole) → line_fault chs (said_by before) (said_by whole) x ≡ line_fault chs old all x
+same_fault chs whole before x old all o a = ap (λ s. line_fault chs s (outline (said_by whole)) x) (sym o) ∙ ap (λ s. line_fault chs old s x) (sym a)
+
+same_code : (chs : Channels) (whole before : List TextLine) (x : TextLine) (old all : Said) → old ≡ said_by before → all ≡ outline (said_by whole) → line_code chs.names old all x ≡ line_code chs.names (said_by before) (said_by whole) x
+same_code chs whole before x old all o a = ap (λ s. line_code chs.names s all x) o ∙ ap (λ s. line_code chs.names (said_by before) s x) a
+
+-- before the first line
+pub unread : (chs : Channels) (now : Said) (code : List Line) (whole : List TextLine) → now ≡ nothing → code ≡ [] → IsRead chs now code whole whole
+unread chs now code whole n c = record {
+  before = [];
+  parts = refl;
+  said = n;
+  few = omega (arith, ap (λ (s : Said). s.done) n);
+  faults = refl;
+  code = ap (λ c. c ++ code_of chs.names whole) c;
+}
 
 -- a line without a fault
-pub free_on : (chs : Channels) (rows : List TextLine) (i : ℕ) (x : TextLine) (old all : Said) → i < length rows → x ≡ get_or rows i x → old ≡ said_by (take i rows) → all ≡ said_by rows → line_fault chs old all x ≡ None → faults_after chs (said_by rows) (take (i + 1) rows) (drop (i + 1) rows) ≡ faults_after chs (said_by rows) (take i rows) (drop i rows)
-free_on chs rows i x old all lt e o a f =
-    sym (faults_on chs (said_by rows) rows i x lt e ∙ ap (λ k. at_or x.number k (faults_after chs (said_by rows) (take (i + 1) rows) (drop (i + 1) rows))) (same_fault chs rows i x old all o a ∙ f))
+pub read_on : (chs : Channels) (x : TextLine) (old new all : Said) (code more : List Line) (now later whole : List TextLine) → now ≡ x ∷ later → all ≡ outline (said_by whole) → new ≡ with_line old x → line_fault chs old all x ≡ None → more ≡ code ++ line_code chs.names old all x → IsRead chs old code now whole → IsRead chs new more later whole
+read_on chs x old new all code more now later whole is a n f m r =
+    let here = line_fault chs (said_by r.before) (said_by whole) x in
+    let free : here ≡ None = same_fault chs whole r.before x old all r.said a ∙ f in
+    let rest = faults_after chs (said_by whole) (r.before ++ x ∷ []) later in
+    let coded = code_after chs.names (said_by whole) (r.before ++ x ∷ []) later in
+    let own = line_code chs.names (said_by r.before) (said_by whole) x in
+    record {
+      before = r.before ++ x ∷ [];
+      parts = append_assoc r.before (x ∷ []) later ∙ ap (λ ls. r.before ++ ls) (sym is) ∙ r.parts;
+      said = n ∙ ap (λ s. with_line s x) r.said ∙ sym (fold-snoc with_line nothing r.before x);
+      few = omega (arith, ap (λ (s : Said). s.done) n, count_le (does (line_body x).form), ap length is, r.few);
+      faults = sym (ap (λ k. at_or x.number k rest) free) ∙ sym (ap (faults_after chs (said_by whole) r.before) is) ∙ r.faults;
+      code = ap (λ c. c ++ coded) (m ∙ ap (λ c. code ++ c) (same_code chs whole r.before x old all r.said a)) ∙ append_assoc code own coded ∙ sym (ap (λ ls. code ++ code_after chs.names (said_by whole) r.before ls) is) ∙ r.code;
+    }
 
 -- a line with a fault
-pub fault_on : (chs : Channels) (rows : List TextLine) (i : ℕ) (x : TextLine) (old all : Said) (why : BundleFault) → i < length rows → x ≡ get_or rows i x → old ≡ said_by (take i rows) → all ≡ said_by rows → Causes why (at_or x.number (line_fault chs old all x) None) → Causes why (faults_after chs (said_by rows) (take i rows) (drop i rows))
-fault_on chs rows i x old all why lt e o a c =
-    subst (Causes why) (sym (faults_on chs (said_by rows) rows i x lt e)) (caused why x.number _ _ (subst (λ k. Causes why (at_or x.number k None)) (sym (same_fault chs rows i x old all o a)) c))
+pub fault_on : (chs : Channels) (x : TextLine) (old all : Said) (code : List Line) (why : BundleFault) (now later whole : List TextLine) → now ≡ x ∷ later → all ≡ outline (said_by whole) → Causes why (at_or x.number (line_fault chs old all x) None) → IsRead chs old code now whole → Causes why (lines_fault chs whole)
+fault_on chs x old all code why now later whole is a c r =
+    subst (Causes why) (sym (ap (faults_after chs (said_by whole) r.before) is) ∙ r.faults)
+    (caused why x.number _ _ (subst (λ k. Causes why (at_or x.number k None)) (sym (same_fault chs whole r.before x old all r.said a)) c))
 
--- its instruction
-pub coded_on : (names : Words) (rows : List TextLine) (i : ℕ) (x : TextLine) (old all : Said) (code new : List Line) → i < length rows → x ≡ get_or rows i x → old ≡ said_by (take i rows) → all ≡ said_by rows → new ≡ code ++ line_code names old all x → code ++ code_after names (said_by rows) (take i rows) (drop i rows) ≡ code_of names rows → new ++ code_after names (said_by rows) (take (i + 1) rows) (drop (i + 1) rows) ≡ code_of names rows
-coded_on names rows i x old all code new lt e o a n was =
-    let later = code_after names (said_by rows) (take (i + 1) rows) (drop (i + 1) rows) in
-    let same : line_code names old all x ≡ line_code names (said_by (take i rows)) (said_by rows) x = ap (λ s. line_code names s all x) o ∙ ap (λ s. line_code names (said_by (take i rows)) s x) a in
-    ap (λ c. c ++ later) (n ∙ ap (λ c. code ++ c) same)
-    ∙ append_assoc code (line_code names (said_by (take i rows)) (said_by rows) x) later
-    ∙ ap (λ c. code ++ c) (sym (code_on names (said_by rows) rows i x lt e))
-    ∙ was
+-- after the last line
+
+pub read_all : (chs : Channels) (now : Said) (code : List Line) (left whole : List TextLine) → left ≡ [] → IsRead chs now code left whole → now ≡ said_by whole
+read_all chs now code left whole is r = r.said ∙ ap said_by (sym (append-nil r.before) ∙ ap (λ ls. r.before ++ ls) (sym is) ∙ r.parts)
+
+pub free_all : (chs : Channels) (now : Said) (code : List Line) (left whole : List TextLine) → left ≡ [] → IsRead chs now code left whole → lines_fault chs whole ≡ None
+free_all chs now code left whole is r = sym r.faults ∙ ap (faults_after chs (said_by whole) r.before) is
+
+pub coded_all : (chs : Channels) (now : Said) (code : List Line) (left whole : List TextLine) → left ≡ [] → IsRead chs now code left whole → code ≡ code_of chs.names whole
+coded_all chs now code left whole is r = sym (append-nil code) ∙ sym (ap (λ ls. code ++ code_after chs.names (said_by whole) r.before ls) is) ∙ r.code
+
+pub done_below : (chs : Channels) (now : Said) (code : List Line) (x : TextLine) (left later whole : List TextLine) → left ≡ x ∷ later → IsRead chs now code left whole → now.done < length whole
+done_below chs now code x left later whole is r = omega (arith, r.few, ap length is)

@@ -43,3 +43,7 @@ with_line s line = with_body s (line_body line)
 -- what these lines say
 abbrev pub said_by : List TextLine → Said
 said_by lines = fold with_line nothing lines
+
+-- what is said of labels and of how many instruction lines there are, without the registers
+abbrev pub outline : Said → Said
+outline s = record { labels = s.labels; targets = s.targets; registers = []; done = s.done }

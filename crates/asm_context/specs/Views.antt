@@ -1,5 +1,5 @@
 -- What stands in the text, for values that lend it.
-use Rattle.std.specs.Prelude.{ℕ, List, option_map}
+use Rattle.std.specs.Prelude.{ℕ, List, [], option_map}
 use Rattle.std.specs.Borrow.{Bor}
 use Rattle.micro_isa.specs.declared.operands.Extra.{Extra}
 use Rattle.micro_isa.specs.declared.operands.Operands.{Operands}
@@ -11,6 +11,7 @@ use Rattle.asm_context.specs.declared.form.Form.{Form}
 use Rattle.asm_context.specs.declared.form.Form.TheVariants as form
 use Rattle.asm_context.specs.declared.form.Body.{Body}
 use Rattle.asm_context.specs.declared.said.Said.{Said}
+use Rattle.asm_context.specs.declared.outline.Outline.{Outline}
 
 abbrev pub seen_extra : Extra (Bor (List ℕ)) (Bor (List ℕ)) → Extra (List ℕ) (List ℕ)
 seen_extra x = each_extra (λ w. w.now) (λ w. w.now) (λ w. w.now) x
@@ -29,3 +30,6 @@ seen_body b = record { label = option_map (λ n. n.now) b.label; form = seen_for
 
 abbrev pub seen_said : Said → lines.Said
 seen_said s = record { labels = words_seen s.labels.keys; targets = s.targets.items; registers = words_seen s.registers.keys; done = s.done }
+
+abbrev pub seen_outline : Outline → lines.Said
+seen_outline o = record { labels = words_seen o.labels.keys; targets = o.targets.items; registers = []; done = o.done }

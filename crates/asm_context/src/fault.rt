@@ -5,10 +5,11 @@ ghost use Rattle.asm_lines.specs.Numbers.{is_no_number};
 ghost use Rattle.asm_lines.specs.Tables.{words_seen, knows, misnamed, one};
 ghost use Rattle.asm_context.specs.Forms.{registers_in, number_in, goes_to};
 ghost use Rattle.asm_context.specs.Faults.{channels, is_misnamed, is_loose, gives_none, takes_none, body_fault};
-ghost use Rattle.asm_context.specs.Views.{seen_operands, seen_form, seen_body, seen_said};
+ghost use Rattle.asm_context.specs.Views.{seen_operands, seen_form, seen_body, seen_said, seen_outline};
 ghost use Rattle.micro_isa.specs.Columns.{registers};
 
 use crate::form::{Body, Form, does, ends, extra_in, goes_to, receives_from, sends_to};
+use crate::outline::Outline;
 use crate::said::Said;
 use crate::spelt::Spelt;
 use asm_lines::{BundleKind, is_misnamed, is_stray, place_of, word_number};
@@ -84,11 +85,11 @@ pub fn body_fault<'a>(
     kinds: &[Channel],
     twice: bool,
     now: &Said<'a>,
-    all: &Said<'a>,
+    all: &Outline<'a>,
     fair: bool,
     body: Body<'a>,
 ) -> Option<BundleKind>
-    ensures { result ≡ body_fault (channels (words_seen names.now.keys) kinds.now) twice (seen_said now.now) (seen_said all.now) fair (seen_body body.entry) }
+    ensures { result ≡ body_fault (channels (words_seen names.now.keys) kinds.now) twice (seen_said now.now) (seen_outline all.now) fair (seen_body body.entry) }
 {
     if !fair {
         return Some(BundleKind::Byte);

@@ -1,11 +1,9 @@
 ghost use Rattle.std.specs.Prelude.{◌≡◌, Some, option_map};
 ghost use Rattle.asm_context.specs.Forms.{named_form, form_of, label_in, body_of, does, ends, extra_in, goes_to, receives_from, sends_to};
-ghost use Rattle.asm_context.specs.Said.{line_body};
 ghost use Rattle.asm_context.specs.Views.{seen_extra, seen_form, seen_body};
 ghost use Rattle.asm_lines.specs.Tables.{words_seen};
 
 use crate::spelt::{Spelt, operands_in};
-use asm_lines::Row;
 use micro_isa::{Extra, Operation, operation_named, roles_of};
 
 /// The form of a line behind its label, with its operands as words that are not judged yet.
@@ -146,9 +144,35 @@ pub fn sends_to<'a>(form: Form<'a>) -> Option<&'a [u8]>
     }
 }
 
-/// Whether a line of a context has an instruction, be it a faulty one.
-pub fn is_instruction_line(row: &Row) -> bool
-    ensures { result ≡ does (line_body row.now).form }
+/// The label of a line of these words.
+pub fn label_of<'a>(words: &[&'a [u8]]) -> Option<&'a [u8]>
+    ensures { option_map (λ n. n.now) result ≡ (body_of (words_seen words.now)).label }
 {
-    does(body_of(row.words()).form)
+    match words {
+        [] => None,
+        [first, ..] => label_in(first),
+    }
+}
+
+#[tactic(auto, using(crate::proofs::Outlining::does_seen))]
+fn has_word(words: &[&[u8]]) -> bool
+    ensures { result ≡ does (form_of (words_seen words.now)) }
+{
+    match words {
+        [] => false,
+        [_, ..] => true,
+    }
+}
+
+/// Whether a line of these words has an instruction, be it a faulty one.
+pub fn has_instruction(words: &[&[u8]]) -> bool
+    ensures { result ≡ does (body_of (words_seen words.now)).form }
+{
+    match words {
+        [] => false,
+        [first, rest @ ..] => match label_in(first) {
+            None => has_word(words),
+            Some(_) => has_word(rest),
+        },
+    }
 }

@@ -3,11 +3,12 @@
 
 mod fault;
 mod form;
+mod outline;
 mod program;
 mod reader;
 mod said;
 mod spelt;
 
-pub use form::is_instruction_line;
+pub use form::has_instruction;
 pub use reader::read_context;
 pub use spelt::Spelt;

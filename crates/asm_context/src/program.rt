@@ -4,12 +4,12 @@ ghost use Rattle.micro_isa.specs.Names.{name_test};
 ghost use Rattle.micro_isa.specs.declared.limits.TheConstants.{MOST_CHANNELS, MOST_REGISTERS};
 ghost use Rattle.asm_lines.specs.Tables.{words_seen, place_of};
 ghost use Rattle.asm_context.specs.Programs.{register, target, instr_in, on_line, labels_from};
-ghost use Rattle.asm_context.specs.Views.{seen_extra, seen_operands, seen_form, seen_said};
+ghost use Rattle.asm_context.specs.Views.{seen_extra, seen_operands, seen_form, seen_outline};
 ghost use Rattle.asm_context.specs.Spelt.{each, each_extra};
 ghost use Rattle.asm_lines.specs.Numbers.{number_or};
 
 use crate::form::Form;
-use crate::said::Said;
+use crate::outline::Outline;
 use crate::spelt::Spelt;
 use asm_lines::{name_of, number_or, place_of};
 use indexmap::IndexSet;
@@ -39,8 +39,8 @@ fn target_at(targets: &[u32], at: usize) -> u32
     }
 }
 
-fn target<'a>(all: &Said<'a>, label: &'a [u8]) -> u32
-    ensures { result ≡ target (seen_said all.now) label.now }
+fn target<'a>(all: &Outline<'a>, label: &'a [u8]) -> u32
+    ensures { result ≡ target (seen_outline all.now) label.now }
 {
     target_at(all.targets.as_slice(), place_of(&all.labels, label))
 }
@@ -66,11 +66,11 @@ fn register_if<'a>(registers: &IndexSet<&'a [u8]>, name: Option<&'a [u8]>) -> Op
 
 fn extra<'a>(
     names: &IndexSet<&'a [u8]>,
-    all: &Said<'a>,
+    all: &Outline<'a>,
     extra: Extra<&'a [u8], &'a [u8]>,
 ) -> Extra<u32, u8>
     requires { length names.now.keys ≤ MOST_CHANNELS }
-    ensures { result ≡ each_extra number_or (target (seen_said all.now)) (place_of (words_seen names.now.keys)) (seen_extra extra.entry) }
+    ensures { result ≡ each_extra number_or (target (seen_outline all.now)) (place_of (words_seen names.now.keys)) (seen_extra extra.entry) }
 {
     match extra {
         Extra::Nothing => Extra::Nothing,
@@ -85,12 +85,12 @@ fn extra<'a>(
 fn operands<'a>(
     registers: &IndexSet<&'a [u8]>,
     names: &IndexSet<&'a [u8]>,
-    all: &Said<'a>,
+    all: &Outline<'a>,
     spelt: Spelt<'a>,
 ) -> Operands<VReg, u32, u8>
     requires registers { length registers.now.keys ≤ MOST_REGISTERS }
     requires channels { length names.now.keys ≤ MOST_CHANNELS }
-    ensures { result ≡ each (register (words_seen registers.now.keys)) number_or (target (seen_said all.now)) (place_of (words_seen names.now.keys)) (seen_operands spelt.entry) }
+    ensures { result ≡ each (register (words_seen registers.now.keys)) number_or (target (seen_outline all.now)) (place_of (words_seen names.now.keys)) (seen_operands spelt.entry) }
 {
     Operands {
         to: register_if(registers, spelt.to),
@@ -104,12 +104,12 @@ fn operands<'a>(
 fn instr_in<'a>(
     registers: &IndexSet<&'a [u8]>,
     names: &IndexSet<&'a [u8]>,
-    all: &Said<'a>,
+    all: &Outline<'a>,
     form: Form<'a>,
 ) -> Option<Instr<VReg>>
     requires registers { length registers.now.keys ≤ MOST_REGISTERS }
     requires channels { length names.now.keys ≤ MOST_CHANNELS }
-    ensures { result ≡ instr_in (words_seen registers.now.keys) (words_seen names.now.keys) (seen_said all.now) (seen_form form.entry) }
+    ensures { result ≡ instr_in (words_seen registers.now.keys) (words_seen names.now.keys) (seen_outline all.now) (seen_form form.entry) }
 {
     match form {
         Form::Instruction {
@@ -126,12 +126,12 @@ pub fn push_code<'a>(
     line: u32,
     registers: &IndexSet<&'a [u8]>,
     names: &IndexSet<&'a [u8]>,
-    all: &Said<'a>,
+    all: &Outline<'a>,
     form: Form<'a>,
 ) -> Result<(), NoMemory>
     requires registers { length registers.now.keys ≤ MOST_REGISTERS }
     requires channels { length names.now.keys ≤ MOST_CHANNELS }
-    ensures { OnOk result (code.new ≡ code.old ++ on_line line (instr_in (words_seen registers.now.keys) (words_seen names.now.keys) (seen_said all.now) (seen_form form.entry))) }
+    ensures { OnOk result (code.new ≡ code.old ++ on_line line (instr_in (words_seen registers.now.keys) (words_seen names.now.keys) (seen_outline all.now) (seen_form form.entry))) }
 {
     match instr_in(registers, names, all, form) {
         Some(instr) => push_line(code, instr, line),

@@ -3,17 +3,19 @@ ghost use Rattle.std.specs.List.{list_all};
 ghost use Rattle.micro_isa.specs.Names.{IsName, name_test};
 ghost use Rattle.asm_lines.specs.Faults.{Causes, at_or};
 ghost use Rattle.micro_isa.specs.declared.limits.TheConstants.{MOST_CHANNELS};
+ghost use Rattle.asm_lines.specs.Sections.{ahead, IsPast};
 ghost use Rattle.asm_lines.specs.Tables.{words_seen};
 ghost use Rattle.asm_context.specs.Faults.{channels, line_fault, lines_fault};
 ghost use Rattle.asm_context.specs.Programs.{line_code, code_of, labels_from, program_of};
-ghost use Rattle.asm_context.specs.Said.{with_line, said_by};
-ghost use Rattle.asm_context.specs.Views.{seen_said};
+ghost use Rattle.asm_context.specs.Said.{nothing, with_line, outline, said_by};
+ghost use Rattle.asm_context.specs.Views.{seen_said, seen_outline};
 
 use crate::fault::body_fault;
 use crate::form::body_of;
+use crate::outline::{Outline, outline_of};
 use crate::program::{labels_of, push_code};
-use crate::said::{Said, note, nothing, survey};
-use asm_lines::{BundleFault, Row, has_name, name_of, names_of};
+use crate::said::{Said, note, nothing};
+use asm_lines::{BundleFault, Lines, Row, has_name, name_of, names_of};
 use indexmap::IndexSet;
 use micro_isa::{Channel, Line, List, NoMemory, Program};
 use std::alloc::Global;
@@ -23,56 +25,52 @@ fn read_line<'a>(
     names: &IndexSet<&'a [u8]>,
     kinds: &[Channel],
     now: &mut Said<'a>,
-    all: &Said<'a>,
+    all: &Outline<'a>,
     code: &mut List<Line>,
     row: &Row<'a>,
 ) -> Result<(), BundleFault>
     requires done { now.old.done < 4294967295 }
     requires channels { length names.now.keys ≤ MOST_CHANNELS }
     ensures said { OnOk result (seen_said now.new ≡ with_line (seen_said now.old) row.now) }
-    ensures fine { OnOk result (line_fault (channels (words_seen names.now.keys) kinds.now) (seen_said now.old) (seen_said all.now) row.now ≡ None) }
-    ensures code { OnOk result (code.new ≡ code.old ++ line_code (words_seen names.now.keys) (seen_said now.old) (seen_said all.now) row.now) }
-    ensures cause { IfErr result (λ why. Causes why (at_or row.now.number (line_fault (channels (words_seen names.now.keys) kinds.now) (seen_said now.old) (seen_said all.now) row.now) None)) }
+    ensures fine { OnOk result (line_fault (channels (words_seen names.now.keys) kinds.now) (seen_said now.old) (seen_outline all.now) row.now ≡ None) }
+    ensures code { OnOk result (code.new ≡ code.old ++ line_code (words_seen names.now.keys) (seen_said now.old) (seen_outline all.now) row.now) }
+    ensures cause { IfErr result (λ why. Causes why (at_or row.now.number (line_fault (channels (words_seen names.now.keys) kinds.now) (seen_said now.old) (seen_outline all.now) row.now) None)) }
 {
     let body = body_of(row.words());
     let twice = has_name(&now.labels, body.label);
-    if note(now, body).is_err() {
-        return Err(BundleFault::NoMemory);
-    }
+    note(now, body)?;
     if let Some(kind) = body_fault(names, kinds, twice, now, all, row.fair(), body) {
         return Err(BundleFault::At {
             line: row.number(),
             kind,
         });
     }
-    if push_code(code, row.number(), &now.registers, names, all, body.form).is_err() {
-        return Err(BundleFault::NoMemory);
-    }
+    push_code(code, row.number(), &now.registers, names, all, body.form)?;
     Ok(())
 }
 
-/// The instructions of a context's lines, of which `all` is what they say.
+/// The instructions of a context's lines, of which `all` is the outline; `now` notes what they say.
 fn read_lines<'a>(
     alloc: Global,
     names: &IndexSet<&'a [u8]>,
     kinds: &[Channel],
-    all: &Said<'a>,
-    rows: &[Row<'a>],
+    now: &mut Said<'a>,
+    all: &Outline<'a>,
+    lines: &mut Lines<'a>,
 ) -> Result<List<Line>, BundleFault>
-    requires said { seen_said all.now ≡ said_by rows.now }
-    requires rows { length rows.now < 4294967295 }
+    requires nothing { seen_said now.old ≡ nothing }
+    requires outline { seen_outline all.now ≡ outline (said_by (ahead lines.old.lines)) }
+    requires few { length (ahead lines.old.lines) < 4294967295 }
     requires channels { length names.now.keys ≤ MOST_CHANNELS }
-    ensures free { OnOk result (lines_fault (channels (words_seen names.now.keys) kinds.now) rows.now ≡ None) }
-    ensures code { IfOk result (λ code. code ≡ code_of (words_seen names.now.keys) rows.now) }
-    ensures cause { IfErr result (λ why. Causes why (lines_fault (channels (words_seen names.now.keys) kinds.now) rows.now)) }
+    ensures free { OnOk result (lines_fault (channels (words_seen names.now.keys) kinds.now) (ahead lines.old.lines) ≡ None) }
+    ensures said { OnOk result (seen_said now.new ≡ said_by (ahead lines.old.lines)) }
+    ensures code { IfOk result (λ code. code ≡ code_of (words_seen names.now.keys) (ahead lines.old.lines)) }
+    ensures past { OnOk result (IsPast lines.old lines.new) }
+    ensures cause { IfErr result (λ why. Causes why (lines_fault (channels (words_seen names.now.keys) kinds.now) (ahead lines.old.lines))) }
 {
-    let mut now = nothing(alloc);
     let mut code = List::new(alloc);
-    for row in rows {
-        match read_line(names, kinds, &mut now, all, &mut code, row) {
-            Ok(()) => {}
-            Err(why) => return Err(why),
-        }
+    'lines: while let Some(row) = lines.next_inside(alloc)? {
+        read_line(names, kinds, now, all, &mut code, &row)?;
     }
     Ok(code)
 }
@@ -100,31 +98,26 @@ fn program_of<'a>(
     })
 }
 
-/// The program of a context, or the first fault of its lines. `names` and `kinds` are those of the channels.
+/// The program of the context that these lines begin with, or the first fault of its lines. `names` and `kinds`
+/// are those of the channels.
 pub fn read_context<'a>(
     alloc: Global,
     names: &IndexSet<&'a [u8]>,
     kinds: &[Channel],
     name: &[u8],
-    rows: &[Row<'a>],
+    lines: &mut Lines<'a>,
 ) -> Result<Program, BundleFault>
     requires name { IsName name.now }
-    requires rows { length rows.now < 4294967295 }
+    requires few { length (ahead lines.old.lines) < 4294967295 }
     requires channels { length names.now.keys ≤ MOST_CHANNELS }
-    ensures free { OnOk result (lines_fault (channels (words_seen names.now.keys) kinds.now) rows.now ≡ None) }
-    ensures program { IfOk result (λ p. p ≡ program_of (words_seen names.now.keys) name.now rows.now) }
-    ensures cause { IfErr result (λ why. Causes why (lines_fault (channels (words_seen names.now.keys) kinds.now) rows.now)) }
+    ensures free { OnOk result (lines_fault (channels (words_seen names.now.keys) kinds.now) (ahead lines.old.lines) ≡ None) }
+    ensures program { IfOk result (λ p. p ≡ program_of (words_seen names.now.keys) name.now (ahead lines.old.lines)) }
+    ensures past { OnOk result (IsPast lines.old lines.new) }
+    ensures cause { IfErr result (λ why. Causes why (lines_fault (channels (words_seen names.now.keys) kinds.now) (ahead lines.old.lines))) }
 {
-    let all = match survey(alloc, rows) {
-        Ok(all) => all,
-        Err(_) => return Err(BundleFault::NoMemory),
-    };
-    let code = match read_lines(alloc, names, kinds, &all, rows) {
-        Ok(code) => code,
-        Err(why) => return Err(why),
-    };
-    match program_of(alloc, name, &all, code) {
-        Ok(program) => Ok(program),
-        Err(_) => Err(BundleFault::NoMemory),
-    }
+    let all = outline_of(alloc, lines)?;
+    let mut now = nothing(alloc);
+    let code = read_lines(alloc, names, kinds, &mut now, &all, lines)?;
+    let program = program_of(alloc, name, &now, code)?;
+    Ok(program)
 }

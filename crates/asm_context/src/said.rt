@@ -1,13 +1,13 @@
-ghost use Rattle.std.specs.Prelude.{◌≡◌, ◌+◌, ◌<◌, OnOk, IfOk, fold, length, option_map};
+ghost use Rattle.std.specs.Prelude.{◌≡◌, ◌+◌, ◌<◌, OnOk, fold, option_map};
 ghost use Rattle.asm_lines.specs.Tables.{words_seen, knows, declare, one};
 ghost use Rattle.asm_context.specs.Forms.{does, registers_in};
-ghost use Rattle.asm_context.specs.Said.{nothing, targets_after, count, with_body, said_by};
+ghost use Rattle.asm_context.specs.Said.{nothing, targets_after, count, with_body};
 ghost use Rattle.asm_context.specs.Views.{seen_operands, seen_form, seen_body, seen_said};
 ghost use Rattle.micro_isa.specs.Columns.{registers};
 
-use crate::form::{Body, Form, body_of, does};
+use crate::form::{Body, Form, does};
 use crate::spelt::Spelt;
-use asm_lines::{Row, declare};
+use asm_lines::declare;
 use indexmap::IndexSet;
 use micro_isa::NoMemory;
 use std::alloc::Global;
@@ -34,7 +34,8 @@ pub fn nothing<'a>(alloc: Global) -> Said<'a>
     }
 }
 
-fn note_label<'a>(
+/// Notes a label, which names the instruction of this number.
+pub fn note_label<'a>(
     labels: &mut IndexSet<&'a [u8]>,
     targets: &mut Vec<u32>,
     done: u32,
@@ -97,16 +98,4 @@ pub fn note<'a>(said: &mut Said<'a>, body: Body<'a>) -> Result<(), NoMemory>
     note_registers(&mut said.registers, body.form)?;
     said.done = counted(said.done, body.form);
     Ok(())
-}
-
-/// What all lines of a context say.
-pub fn survey<'a>(alloc: Global, rows: &[Row<'a>]) -> Result<Said<'a>, NoMemory>
-    requires { length rows.now < 4294967295 }
-    ensures { IfOk result (λ s. seen_said s ≡ said_by rows.now) }
-{
-    let mut all = nothing(alloc);
-    for row in rows {
-        note(&mut all, body_of(row.words()))?;
-    }
-    Ok(all)
 }

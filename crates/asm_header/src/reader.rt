@@ -1,5 +1,6 @@
 ghost use Rattle.std.specs.Prelude.{◌≡◌, ◌≤◌, None, IfOk, OnOk, IfErr};
 ghost use Rattle.asm_lines.specs.Faults.{Causes, at_or};
+ghost use Rattle.asm_lines.specs.Sections.{ahead, IsPast};
 ghost use Rattle.micro_isa.specs.declared.limits.TheConstants.{MOST_INITIAL_WORDS};
 ghost use Rattle.asm_header.specs.Headers.{with_line, header_of};
 ghost use Rattle.asm_header.specs.Faults.{line_fault, header_fault};
@@ -9,7 +10,7 @@ ghost use Rattle.asm_header.specs.Views.{seen_header};
 use crate::fault::form_fault;
 use crate::form::header_form;
 use crate::header::{Header, no_header, note};
-use asm_lines::{BundleFault, Row};
+use asm_lines::{BundleFault, Lines, Row};
 use std::alloc::Global;
 
 fn read_line<'a>(alloc: Global, header: &mut Header<'a>, row: &Row<'a>) -> Result<(), BundleFault>
@@ -25,25 +26,21 @@ fn read_line<'a>(alloc: Global, header: &mut Header<'a>, row: &Row<'a>) -> Resul
             kind,
         });
     }
-    match note(alloc, header, form) {
-        Ok(()) => Ok(()),
-        Err(_) => Err(BundleFault::NoMemory),
-    }
+    note(alloc, header, form)?;
+    Ok(())
 }
 
-/// What the lines before the first context say, or their first fault.
-pub fn read_header<'a>(alloc: Global, rows: &[Row<'a>]) -> Result<Header<'a>, BundleFault>
-    ensures header { IfOk result (λ h. seen_header h ≡ header_of rows.now) }
-    ensures free { OnOk result (header_fault rows.now ≡ None) }
+/// What the lines before the next context say, or their first fault.
+pub fn read_header<'a>(alloc: Global, lines: &mut Lines<'a>) -> Result<Header<'a>, BundleFault>
+    ensures header { IfOk result (λ h. seen_header h ≡ header_of (ahead lines.old.lines)) }
+    ensures free { OnOk result (header_fault (ahead lines.old.lines) ≡ None) }
     ensures sound { IfOk result (λ h. IsSound (seen_header h)) }
-    ensures cause { IfErr result (λ why. Causes why (header_fault rows.now)) }
+    ensures past { OnOk result (IsPast lines.old lines.new) }
+    ensures cause { IfErr result (λ why. Causes why (header_fault (ahead lines.old.lines))) }
 {
     let mut header = no_header(alloc);
-    for row in rows {
-        match read_line(alloc, &mut header, row) {
-            Ok(()) => {}
-            Err(why) => return Err(why),
-        }
+    'lines: while let Some(row) = lines.next_inside(alloc)? {
+        read_line(alloc, &mut header, &row)?;
     }
     Ok(header)
 }

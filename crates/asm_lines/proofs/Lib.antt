@@ -1,4 +1,5 @@
 pub mod Causing
+pub mod Counting
 pub mod Digits
 pub mod First
 pub mod Known

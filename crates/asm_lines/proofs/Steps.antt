@@ -2,7 +2,7 @@
 use Rattle.std.proofs.Common.{◌≡◌, ◌++◌, ◌≤◌, ◌<◌, ℕ, zero, suc, ◌+◌, ◌-◌, ◌==◌, Bool, true, false, List, [], ◌∷◌, length, take, drop, get_or, refl, sym, ap, ◌∙◌, arith, add-one, append_assoc, if◌then◌else◌}
 use Rattle.std.proofs.Math.Seq.{take-suc, drop-cons}
 use Rattle.std.proofs.lemmas.List.{length-append, length-drop, get_or-drop}
-use Rattle.asm_lines.specs.Cutting.{words_from, lines_from, is_gap, piece, numbered, line_of, TextLine}
+use Rattle.asm_lines.specs.Cutting.{words_from, lines_from, told, is_gap, piece}
 
 more : (xs : List ℕ) (s i : ℕ) → s ≤ i → i < length xs → take (i + 1 - s) (drop s xs) ≡ take (i - s) (drop s xs) ++ get_or xs i 0 ∷ []
 more xs s i le lt =
@@ -25,32 +25,40 @@ words_cons sofar c cs b e = ap (λ b. if b then piece sofar ++ words_from [] cs 
 lines_cons : (sofar : List ℕ) (c : ℕ) (cs : List ℕ) (b : Bool) → (c == 10) ≡ b → lines_from sofar (c ∷ cs) ≡ (if b then sofar ∷ lines_from [] cs else lines_from (sofar ++ c ∷ []) cs)
 lines_cons sofar c cs b e = ap (λ b. if b then sofar ∷ lines_from [] cs else lines_from (sofar ++ c ∷ []) cs) e
 
-pub words_on : (xs : List ℕ) (s i : ℕ) → s ≤ i → i < length xs → is_gap (get_or xs i 0) ≡ false → words_from (take (i - s) (drop s xs)) (drop i xs) ≡ words_from (take (i + 1 - s) (drop s xs)) (drop (i + 1) xs)
-words_on xs s i le lt e =
-    ap (words_from (take (i - s) (drop s xs))) (next xs i lt)
-    ∙ words_cons (take (i - s) (drop s xs)) (get_or xs i 0) (drop (i + 1) xs) false e
-    ∙ ap (λ t. words_from t (drop (i + 1) xs)) (sym (more xs s i le lt))
+told_on : (xs : List ℕ) (i : ℕ) (b : Bool) → i < length xs → (get_or xs i 0 == 35) ≡ b → told (drop i xs) ≡ (if b then [] else get_or xs i 0 ∷ told (drop (i + 1) xs))
+told_on xs i b lt e = ap told (next xs i lt) ∙ ap (λ b. if b then [] else get_or xs i 0 ∷ told (drop (i + 1) xs)) e
 
-pub words_cut : (xs : List ℕ) (s i : ℕ) → i < length xs → is_gap (get_or xs i 0) ≡ true → words_from (take (i - s) (drop s xs)) (drop i xs) ≡ piece (take (i - s) (drop s xs)) ++ words_from (take (i + 1 - (i + 1)) (drop (i + 1) xs)) (drop (i + 1) xs)
-words_cut xs s i lt e =
-    ap (words_from (take (i - s) (drop s xs))) (next xs i lt)
-    ∙ words_cons (take (i - s) (drop s xs)) (get_or xs i 0) (drop (i + 1) xs) true e
-    ∙ ap (λ t. piece (take (i - s) (drop s xs)) ++ words_from t (drop (i + 1) xs)) (sym (none_left (drop (i + 1) xs) _ i refl))
+pub words_on : (xs : List ℕ) (s i : ℕ) → s ≤ i → i < length xs → (get_or xs i 0 == 35) ≡ false → is_gap (get_or xs i 0) ≡ false → words_from (take (i - s) (drop s xs)) (told (drop i xs)) ≡ words_from (take (i + 1 - s) (drop s xs)) (told (drop (i + 1) xs))
+words_on xs s i le lt plain e =
+    ap (words_from (take (i - s) (drop s xs))) (told_on xs i false lt plain)
+    ∙ words_cons (take (i - s) (drop s xs)) (get_or xs i 0) (told (drop (i + 1) xs)) false e
+    ∙ ap (λ t. words_from t (told (drop (i + 1) xs))) (sym (more xs s i le lt))
 
-pub lines_on : (xs : List ℕ) (s i : ℕ) → s ≤ i → i < length xs → (get_or xs i 0 == 10) ≡ false → lines_from (take (i - s) (drop s xs)) (drop i xs) ≡ lines_from (take (i + 1 - s) (drop s xs)) (drop (i + 1) xs)
-lines_on xs s i le lt e =
-    ap (lines_from (take (i - s) (drop s xs))) (next xs i lt)
-    ∙ lines_cons (take (i - s) (drop s xs)) (get_or xs i 0) (drop (i + 1) xs) false e
-    ∙ ap (λ t. lines_from t (drop (i + 1) xs)) (sym (more xs s i le lt))
+pub words_cut : (xs : List ℕ) (s i : ℕ) → i < length xs → (get_or xs i 0 == 35) ≡ false → is_gap (get_or xs i 0) ≡ true → words_from (take (i - s) (drop s xs)) (told (drop i xs)) ≡ piece (take (i - s) (drop s xs)) ++ words_from (take (i + 1 - (i + 1)) (drop (i + 1) xs)) (told (drop (i + 1) xs))
+words_cut xs s i lt plain e =
+    ap (words_from (take (i - s) (drop s xs))) (told_on xs i false lt plain)
+    ∙ words_cons (take (i - s) (drop s xs)) (get_or xs i 0) (told (drop (i + 1) xs)) true e
+    ∙ ap (λ t. piece (take (i - s) (drop s xs)) ++ words_from t (told (drop (i + 1) xs))) (sym (none_left (drop (i + 1) xs) _ i refl))
 
-pub lines_cut : (xs : List ℕ) (s i : ℕ) → i < length xs → (get_or xs i 0 == 10) ≡ true → lines_from (take (i - s) (drop s xs)) (drop i xs) ≡ take (i - s) (drop s xs) ∷ lines_from (take (i + 1 - (i + 1)) (drop (i + 1) xs)) (drop (i + 1) xs)
-lines_cut xs s i lt e =
-    ap (lines_from (take (i - s) (drop s xs))) (next xs i lt)
-    ∙ lines_cons (take (i - s) (drop s xs)) (get_or xs i 0) (drop (i + 1) xs) true e
-    ∙ ap (λ t. take (i - s) (drop s xs) ∷ lines_from t (drop (i + 1) xs)) (sym (none_left (drop (i + 1) xs) _ i refl))
+-- a comment ends the last word
+pub words_end : (xs : List ℕ) (s i : ℕ) → i < length xs → (get_or xs i 0 == 35) ≡ true → words_from (take (i - s) (drop s xs)) (told (drop i xs)) ≡ piece (take (i - s) (drop s xs))
+words_end xs s i lt e = ap (words_from (take (i - s) (drop s xs))) (told_on xs i true lt e)
 
--- one more line of those that were cut
-pub row_more : (rows new all : List TextLine) (l : List ℕ) (ls : List (List ℕ)) → rows ++ numbered (length rows + 1) (l ∷ ls) ≡ all → new ≡ rows ++ line_of (length rows + 1) l ∷ [] → new ++ numbered (length new + 1) ls ≡ all
-row_more rows new all l ls e n =
-    let k : length new ≡ length rows + 1 = ap length n ∙ length-append rows (line_of (length rows + 1) l ∷ []) in
-    rw k (rw n (rw append_assoc e))
+so_far : (xs : List ℕ) (i : ℕ) → i < length xs → take (i + 1) xs ≡ take i xs ++ get_or xs i 0 ∷ []
+so_far xs i lt = rw (add-one i) (take-suc xs i 0 lt)
+
+pub lines_on : (xs : List ℕ) (i : ℕ) → i < length xs → (get_or xs i 0 == 10) ≡ false → lines_from (take i xs) (drop i xs) ≡ lines_from (take (i + 1) xs) (drop (i + 1) xs)
+lines_on xs i lt e =
+    ap (lines_from (take i xs)) (next xs i lt)
+    ∙ lines_cons (take i xs) (get_or xs i 0) (drop (i + 1) xs) false e
+    ∙ ap (λ t. lines_from t (drop (i + 1) xs)) (sym (so_far xs i lt))
+
+pub lines_cut : (xs : List ℕ) (i : ℕ) → i < length xs → (get_or xs i 0 == 10) ≡ true → lines_from (take i xs) (drop i xs) ≡ take i xs ∷ lines_from [] (drop (i + 1) xs)
+lines_cut xs i lt e =
+    ap (lines_from (take i xs)) (next xs i lt)
+    ∙ lines_cons (take i xs) (get_or xs i 0) (drop (i + 1) xs) true e
+
+-- a text without a newline is one line
+pub lines_last : (xs : List ℕ) → 0 < length xs → piece xs ≡ xs ∷ []
+lines_last [] some = absurd (omega arith)
+lines_last (x ∷ xs) some = refl

@@ -1,4 +1,5 @@
 pub mod Cutting
 pub mod Faults
 pub mod Numbers
+pub mod Sections
 pub mod Tables

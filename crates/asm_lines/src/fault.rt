@@ -1,6 +1,7 @@
 ghost use Rattle.std.specs.Prelude.{◌≡◌};
 ghost use Rattle.asm_lines.specs.Faults.{kind_text};
 
+use micro_isa::NoMemory;
 use thiserror::Error;
 
 /// The kinds of faults that a bundle's text can have, in the order in which those of one line are told.
@@ -30,6 +31,16 @@ pub enum BundleFault {
     At { line: u32, kind: BundleKind },
     #[error("out of memory")]
     NoMemory,
+}
+
+impl From<NoMemory> for BundleFault {
+    ghost use Rattle.asm_lines.specs.declared.fault.BundleFault.TheVariants as fault;
+
+    ghost from_gives = { λ _ why. why ≡ fault.NoMemory };
+
+    fn from(_want: NoMemory) -> BundleFault {
+        BundleFault::NoMemory
+    }
 }
 
 /// The word by which a kind is told.

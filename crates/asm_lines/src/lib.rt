@@ -4,11 +4,13 @@
 
 mod cutting;
 mod fault;
+mod lines;
 mod number;
 mod table;
 
-pub use cutting::{Row, rows_of};
+pub use cutting::Row;
 pub use fault::{BundleFault, BundleKind, kind_text};
+pub use lines::{Lines, starts};
 pub use number::{number_or, word_number};
 pub use table::{
     declare, find, has_name, is_misnamed, is_stray, knows, name_of, names_of, place_of,

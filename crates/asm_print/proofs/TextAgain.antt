@@ -26,7 +26,8 @@ use Rattle.asm_header.specs.Faults.{header_fault}
 use Rattle.asm_context.specs.Faults as context
 use Rattle.asm_context.specs.Forms.{Body, does, label_in}
 use Rattle.asm_context.specs.Said.{line_body}
-use Rattle.asm_text.specs.Contexts.{starts, ahead, has_instruction, start_tests, start_fault, context_fault, names_with, contexts_fault, program_at, programs}
+use Rattle.asm_lines.specs.Sections.{starts, ahead}
+use Rattle.asm_text.specs.Contexts.{has_instruction, start_tests, start_fault, context_fault, names_with, contexts_fault, program_at, programs}
 use Rattle.asm_text.specs.Texts.{header_in, end_fault, lines_fault, text_fault, bundle_said}
 use Rattle.asm_print.specs.Rows.{Row}
 use Rattle.asm_print.specs.Canonical.{labels_at, label_row, instruction_row, line_rows, code_rows, context_rows, words_rows, channel_rows, channels_rows, header_rows, canonical_rows, canonical_text}

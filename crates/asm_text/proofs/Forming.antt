@@ -22,7 +22,8 @@ use Rattle.asm_header.specs.Sound.{IsSound}
 use Rattle.asm_header.proofs.Sounding.{sound_header}
 use Rattle.asm_context.specs.Faults as context
 use Rattle.asm_context.proofs.Forming.{program_formed, channels_fit, rises_weaker}
-use Rattle.asm_text.specs.Contexts.{starts, name_in, ahead, has_instruction, start_tests, start_fault, context_fault, names_with, contexts_fault, program_at, programs}
+use Rattle.asm_lines.specs.Sections.{starts, ahead}
+use Rattle.asm_text.specs.Contexts.{name_in, has_instruction, start_tests, start_fault, context_fault, names_with, contexts_fault, program_at, programs}
 use Rattle.asm_text.specs.Texts.{header_in, end_fault, lines_fault, bundle_said, Spells}
 
 each_cons : {A : Type 0} (P : A → Type 0) (x : A) (xs : List A) → P x → Each xs P → Each (x ∷ xs) P

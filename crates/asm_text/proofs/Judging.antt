@@ -14,7 +14,8 @@ use Rattle.asm_header.specs.Headers.{Header, no_header}
 use Rattle.asm_header.specs.Faults as header_faults
 use Rattle.asm_context.specs.Faults as context
 use Rattle.asm_context.specs.Said.{Said, said_by}
-use Rattle.asm_text.specs.Contexts.{starts, ahead, start_fault, context_fault, names_with, contexts_fault}
+use Rattle.asm_lines.specs.Sections.{starts, ahead, after}
+use Rattle.asm_text.specs.Contexts.{start_fault, context_fault, names_with, contexts_fault}
 use Rattle.asm_text.specs.Texts.{header_in, end_fault, lines_fault, text_fault}
 use Rattle.asm_text.specs.Verdicts.{Verdict, header_verdicts, body_verdicts, contexts_verdicts, end_verdict, verdicts, Tells}
 
@@ -77,11 +78,6 @@ numbers lines = map (λ l. l.number) lines
 abbrev places : List Verdict → List ℕ
 places vs = map (λ v. v.0) vs
 
--- the lines from the next context line on
-abbrev behind : List TextLine → List TextLine
-behind [] = []
-behind (line ∷ lines) = if starts line.words then line ∷ lines else behind lines
-
 header_places : (h : Header) (lines : List TextLine) → places (header_verdicts h lines) ≡ numbers lines
 header_places h [] = refl
 header_places h (line ∷ lines) = ap (λ ns. line.number ∷ ns) (header_places (header.with_line h line) lines)
@@ -91,21 +87,21 @@ body_places chs all before [] = refl
 body_places chs all before (line ∷ lines) = ap (λ ns. line.number ∷ ns) (body_places chs all (before ++ line ∷ []) lines)
 
 -- the numbers of the lines before the next context line, and of those from it on
-split_numbers : (lines : List TextLine) → numbers (ahead lines) ++ numbers (behind lines) ≡ numbers lines
+split_numbers : (lines : List TextLine) → numbers (ahead lines) ++ numbers (after lines) ≡ numbers lines
 split_numbers [] = refl
 split_numbers (line ∷ lines) =
-    elim (starts line.words) as (λ b. numbers (if b then [] else line ∷ ahead lines) ++ numbers (if b then line ∷ lines else behind lines) ≡ line.number ∷ numbers lines) [
+    elim (starts line.words) as (λ b. numbers (if b then [] else line ∷ ahead lines) ++ numbers (if b then line ∷ lines else after lines) ≡ line.number ∷ numbers lines) [
       | true ↦ refl
       | false ↦ ap (λ ns. line.number ∷ ns) (split_numbers lines)
     ]
 
-contexts_places : (h : Header) (names : Words) (lines : List TextLine) → places (contexts_verdicts h names lines) ≡ numbers (behind lines)
+contexts_places : (h : Header) (names : Words) (lines : List TextLine) → places (contexts_verdicts h names lines) ≡ numbers (after lines)
 contexts_places h names [] = refl
 contexts_places h names (line ∷ lines) =
     let chs = context.channels h.names h.channels in
     let own = body_verdicts chs (said_by (ahead lines)) [] (ahead lines) in
     let later = contexts_verdicts h (names_with names line) lines in
-    elim (starts line.words) as (λ b. places (if b then (line.number, start_fault h names line (ahead lines)) ∷ (own ++ later) else contexts_verdicts h names lines) ≡ numbers (if b then line ∷ lines else behind lines)) [
+    elim (starts line.words) as (λ b. places (if b then (line.number, start_fault h names line (ahead lines)) ∷ (own ++ later) else contexts_verdicts h names lines) ≡ numbers (if b then line ∷ lines else after lines)) [
       | true ↦ ap (λ ns. line.number ∷ ns) (map-append (λ (v : Verdict). v.0) own later ∙ ap (λ ns. ns ++ places later) (body_places chs (said_by (ahead lines)) [] (ahead lines)) ∙ ap (λ ns. numbers (ahead lines) ++ ns) (contexts_places h (names_with names line) lines) ∙ split_numbers lines)
       | false ↦ contexts_places h names lines
     ]
@@ -118,7 +114,7 @@ verdict_places lines =
     map-append (λ (v : Verdict). v.0) first (contexts ++ last)
     ∙ ap (λ ns. ns ++ places (contexts ++ last)) (header_places no_header (ahead lines))
     ∙ ap (λ ns. numbers (ahead lines) ++ ns) (map-append (λ (v : Verdict). v.0) contexts last ∙ ap (λ ns. ns ++ (length lines + 1) ∷ []) (contexts_places (header_in lines) [] lines))
-    ∙ sym (append_assoc (numbers (ahead lines)) (numbers (behind lines)) ((length lines + 1) ∷ []))
+    ∙ sym (append_assoc (numbers (ahead lines)) (numbers (after lines)) ((length lines + 1) ∷ []))
     ∙ ap (λ ns. ns ++ (length lines + 1) ∷ []) (split_numbers lines)
 
 numbered_range : (n : ℕ) (ls : Words) → numbers (numbered n ls) ≡ range_with_len n (length (numbered n ls))

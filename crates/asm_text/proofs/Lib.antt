@@ -1,3 +1,4 @@
+pub mod Ending
 pub mod Forming
 pub mod Judging
 pub mod Spelling

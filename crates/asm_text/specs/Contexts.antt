@@ -1,12 +1,12 @@
 -- Context lines, and the contexts that they begin.
-use Rattle.std.specs.Prelude.{ℕ, ◌&&◌, not, nat_le, nat_eq, Bool, false, List, [], ◌∷◌, Option, Some, None, is_none, unwrap_or, if◌then◌else◌, length, fold, codes}
+use Rattle.std.specs.Prelude.{ℕ, ◌&&◌, not, nat_le, nat_eq, Bool, List, [], ◌∷◌, Option, Some, None, is_none, unwrap_or, if◌then◌else◌, length, fold}
 use Rattle.std.specs.List.{list_any}
-use Rattle.std.specs.Str.{bytes_eq}
 use Rattle.micro_isa.specs.declared.program.Program.{Program}
 use Rattle.asm_lines.specs.declared.fault.BundleKind.{BundleKind}
 use Rattle.asm_lines.specs.declared.fault.BundleKind.TheVariants as kind
 use Rattle.asm_lines.specs.Cutting.{Words, TextLine}
 use Rattle.asm_lines.specs.Faults.{At, first_kind, at_or, or_else}
+use Rattle.asm_lines.specs.Sections.{starts, ahead}
 use Rattle.micro_isa.specs.declared.limits.TheConstants.{MOST_CONTEXTS}
 use Rattle.asm_lines.specs.Tables.{knows, declare, misnamed, one}
 use Rattle.asm_header.specs.Headers.{Header}
@@ -15,20 +15,10 @@ use Rattle.asm_context.specs.Forms.{does}
 use Rattle.asm_context.specs.Programs.{program_of}
 use Rattle.asm_context.specs.Said.{line_body}
 
--- a line whose first word is `context` begins a context
-abbrev pub starts : Words → Bool
-starts [] = false
-starts (word ∷ words) = bytes_eq word (codes "context")
-
 -- the name on a context line
 abbrev pub name_in : Words → Option (List ℕ)
 name_in (word ∷ name ∷ []) = Some name
 name_in _ = None
-
--- the lines before the next context line
-abbrev pub ahead : List TextLine → List TextLine
-ahead [] = []
-ahead (line ∷ lines) = if starts line.words then [] else line ∷ ahead lines
 
 -- an instruction line stands among these
 abbrev pub has_instruction : List TextLine → Bool

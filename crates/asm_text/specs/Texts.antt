@@ -9,7 +9,8 @@ use Rattle.asm_lines.specs.Cutting.{TextLine, text_lines}
 use Rattle.asm_lines.specs.Faults.{At, or_else}
 use Rattle.asm_header.specs.Headers.{Header, header_of, setting_of}
 use Rattle.asm_header.specs.Faults.{header_fault}
-use Rattle.asm_text.specs.Contexts.{starts, ahead, contexts_fault, programs}
+use Rattle.asm_lines.specs.Sections.{starts, ahead}
+use Rattle.asm_text.specs.Contexts.{contexts_fault, programs}
 
 -- what the lines before the first context say
 abbrev pub header_in : List TextLine → Header

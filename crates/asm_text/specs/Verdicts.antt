@@ -11,7 +11,8 @@ use Rattle.asm_header.specs.Headers.{Header, no_header}
 use Rattle.asm_header.specs.Faults as header_faults
 use Rattle.asm_context.specs.Faults as context
 use Rattle.asm_context.specs.Said.{Said, said_by}
-use Rattle.asm_text.specs.Contexts.{starts, ahead, start_fault, names_with}
+use Rattle.asm_lines.specs.Sections.{starts, ahead}
+use Rattle.asm_text.specs.Contexts.{start_fault, names_with}
 use Rattle.asm_text.specs.Texts.{header_in}
 
 -- a line's number, and the first kind of its faults, if it has one

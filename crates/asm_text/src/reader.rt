@@ -1,5 +1,5 @@
 ghost use Rattle.std.specs.Prelude.{◌≡◌, ◌<◌, ◌≤◌, None, IfOk, OnOk, IfErr, length, unwrap_or, true};
-ghost use Rattle.std.specs.List.{list_all, list_any};
+ghost use Rattle.std.specs.List.{list_all};
 ghost use Rattle.micro_isa.specs.declared.limits.TheConstants.{LONGEST_TEXT};
 ghost use Rattle.micro_isa.specs.Names.{name_test};
 ghost use Rattle.asm_lines.specs.Faults.{Causes};
@@ -7,26 +7,14 @@ ghost use Rattle.asm_lines.specs.Tables.{words_seen};
 ghost use Rattle.asm_header.specs.Headers.{setting_of};
 ghost use Rattle.asm_header.specs.Views.{seen_header};
 ghost use Rattle.micro_isa.specs.Formed.{IsFormedBundle};
-ghost use Rattle.asm_text.specs.Contexts.{starts};
 ghost use Rattle.asm_text.specs.Texts.{bundle_said, lines_fault, text_fault, Spells, SpellsAlone, SpellsNone};
 ghost use Rattle.asm_text.specs.Verdicts.{Tells};
 
-use crate::context::{ahead, read_contexts, starts};
+use crate::context::read_contexts;
 use asm_header::{Header, read_header};
-use asm_lines::{BundleFault, BundleKind, Row, names_of, rows_of};
+use asm_lines::{BundleFault, BundleKind, Lines, names_of};
 use micro_isa::{Bundle, List, NoMemory, Program, Setting};
 use std::alloc::Global;
-
-fn has_context(rows: &[Row]) -> bool
-    ensures { result ≡ list_any (λ line. starts line.words) rows.now }
-{
-    for row in rows {
-        if starts(row.words()) {
-            return true;
-        }
-    }
-    false
-}
 
 fn bundle_of(alloc: Global, header: Header, programs: List<Program>) -> Result<Bundle, NoMemory>
     requires { list_all name_test (words_seen header.names.keys) ≡ true }
@@ -45,30 +33,23 @@ fn bundle_of(alloc: Global, header: Header, programs: List<Program>) -> Result<B
 }
 
 /// The bundle that the lines say, or their first fault.
-fn read_lines<'a>(alloc: Global, rows: &[Row<'a>]) -> Result<Bundle, BundleFault>
-    requires { length rows.now < 4294967295 }
-    ensures free { OnOk result (lines_fault rows.now ≡ None) }
-    ensures said { IfOk result (λ b. b ≡ bundle_said rows.now) }
-    ensures cause { IfErr result (λ why. Causes why (lines_fault rows.now)) }
+fn read_lines<'a>(alloc: Global, lines: &mut Lines<'a>) -> Result<Bundle, BundleFault>
+    requires first { lines.old.number ≡ 1 }
+    requires few { length lines.old.lines < 4294967295 }
+    ensures free { OnOk result (lines_fault lines.old.lines ≡ None) }
+    ensures said { IfOk result (λ b. b ≡ bundle_said lines.old.lines) }
+    ensures cause { IfErr result (λ why. Causes why (lines_fault lines.old.lines)) }
 {
-    let header = match read_header(alloc, ahead(rows)) {
-        Ok(header) => header,
-        Err(why) => return Err(why),
-    };
-    let programs = match read_contexts(alloc, &header, rows) {
-        Ok(programs) => programs,
-        Err(why) => return Err(why),
-    };
-    if !has_context(rows) {
+    let header = read_header(alloc, lines)?;
+    let programs = read_contexts(alloc, &header, lines)?;
+    if programs.is_empty() {
         return Err(BundleFault::At {
-            line: rows.len() as u32 + 1,
+            line: lines.number(),
             kind: BundleKind::Missing,
         });
     }
-    match bundle_of(alloc, header, programs) {
-        Ok(bundle) => Ok(bundle),
-        Err(_) => Err(BundleFault::NoMemory),
-    }
+    let bundle = bundle_of(alloc, header, programs)?;
+    Ok(bundle)
 }
 
 fn read_text(alloc: Global, text: &[u8]) -> Result<Bundle, BundleFault>
@@ -76,10 +57,8 @@ fn read_text(alloc: Global, text: &[u8]) -> Result<Bundle, BundleFault>
     ensures fine { IfOk result (λ b. Spells text.now b) }
     ensures cause { IfErr result (λ why. Causes why (text_fault text.now)) }
 {
-    match rows_of(alloc, text) {
-        Ok(rows) => read_lines(alloc, rows.as_slice()),
-        Err(_) => Err(BundleFault::NoMemory),
-    }
+    let mut lines = Lines::of(text);
+    read_lines(alloc, &mut lines)
 }
 
 /// The bundle that a text spells, or the first fault of the text.
@@ -93,8 +72,5 @@ pub fn read_bundle(alloc: Global, text: &[u8]) -> Result<Bundle, BundleFault>
     ensures unspelled { IfErr result (λ why. SpellsNone why text.now) }
     ensures tells { IfErr result (λ why. Tells why text.now) }
 {
-    match read_text(alloc, text) {
-        Ok(bundle) => Ok(bundle),
-        Err(why) => Err(why),
-    }
+    read_text(alloc, text)
 }

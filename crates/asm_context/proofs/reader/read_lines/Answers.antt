@@ -1,34 +1,87 @@
-use Rattle.std.proofs.Common.{sym, ap, ◌∙◌, subst, arith}
-use Rattle.asm_lines.specs.Tables.{words_seen}
+use Rattle.std.proofs.Common.{refl, sym, ap, ◌∙◌, length, arith}
 use Rattle.asm_lines.specs.Faults.{Causes}
-use Rattle.asm_context.specs.Faults.{channels}
-use Rattle.asm_context.specs.Forms.{does}
-use Rattle.asm_context.specs.Said.{Said, with_line, line_body}
-use Rattle.asm_context.specs.Views.{seen_said}
-use Rattle.asm_context.proofs.Steps.{said_more, free_on, fault_on, coded_on, count_le}
+use Rattle.asm_lines.proofs.Causing.{passed_up}
+use Rattle.asm_lines.specs.Sections.{ahead, TakesInside, IsAtEnd}
+use Rattle.asm_lines.specs.Tables.{words_seen}
+use Rattle.asm_context.specs.Faults.{channels, lines_fault}
+use Rattle.asm_context.specs.Views.{seen_said, seen_outline}
+use Rattle.asm_context.proofs.Steps.{unread, read_on, fault_on, read_all, free_all, coded_all, done_below}
 use Rattle.asm_context.proofs.reader.read_lines.Goals as goal
 
-pub loop-row-preserved : goal.loop-row-preserved
-loop-row-preserved c =
-    let i = c.loop-row.invariant in
-    let r = c.in-Ok.ensures in
-    let rows = c.args.rows.now in
-    let names = words_seen c.args.names.now.keys in
-    let chs = channels names c.args.kinds.now in
-    let now = seen_said c.loop-row.now in
-    let all = seen_said c.args.all.now in
-    let x = c.row-item.result in
-    let lt = c.loop-row-test.true in
-    let is = c.row-item.is in (
-      r.said ∙ ap (λ s. with_line s x) i.0 ∙ sym (said_more rows c.loop-row.row-index x lt is),
-      omega (arith, ap (λ (s : Said). s.done) r.said, count_le (does (line_body x).form), i.1),
-      free_on chs rows c.loop-row.row-index x now all lt is i.0 c.requires.said r.fine ∙ i.2,
-      coded_on names rows c.loop-row.row-index x now all c.loop-row.code c.read_line.new.code lt is i.0 c.requires.said r.code i.3,
-    )
+pub lines-init : goal.lines-init
+lines-init c = record {
+  read = unread (channels (words_seen c.args.names.now.keys) c.args.kinds.now) (seen_said c.args.now.now) c.new-code.result (ahead c.args.lines.now.lines) c.requires.nothing c.new-code.ensures;
+  after = refl;
+  count = refl;
+}
 
-pub returns-in-Err-clause-cause : goal.returns-in-Err-clause-cause
-returns-in-Err-clause-cause c =
-    let i = c.loop-row.invariant in
-    let rows = c.args.rows.now in
+pub read_line-requires-clause-done : goal.read_line-requires-clause-done
+read_line-requires-clause-done c =
+    let n : TakesInside c.lines.lines c.in-Some.row c.next_inside.new.self = rw c.in-Some.is at c.in_ok-row.ensures in
     let chs = channels (words_seen c.args.names.now.keys) c.args.kinds.now in
-    subst (Causes c.in-Err.why) i.2 (fault_on chs rows c.loop-row.row-index c.row-item.result (seen_said c.loop-row.now) (seen_said c.args.all.now) c.in-Err.why c.loop-row-test.true c.row-item.is i.0 c.requires.said c.in-Err.ensures.cause)
+    let whole = ahead c.args.lines.now.lines in
+    let left = ahead c.lines.lines.lines in
+    let later = ahead c.next_inside.new.self.lines in
+    omega (arith, c.requires.few, done_below chs (seen_said c.lines.now) c.lines.code c.in-Some.row left later whole n.ahead c.lines.invariant.read)
+
+pub lines-preserved-in_ok-read_line : goal.lines-preserved-in_ok-read_line
+lines-preserved-in_ok-read_line c =
+    let n : TakesInside c.lines.lines c.in-Some.row c.next_inside.new.self = rw c.in-Some.is at c.in_ok-row.ensures in
+    let chs = channels (words_seen c.args.names.now.keys) c.args.kinds.now in
+    let whole = ahead c.args.lines.now.lines in
+    let left = ahead c.lines.lines.lines in
+    let later = ahead c.next_inside.new.self.lines in
+    let i = c.lines.invariant in
+    let r = c.in_ok-read_line.ensures in record {
+      read = read_on chs c.in-Some.row (seen_said c.lines.now) (seen_said c.read_line.new.now) (seen_outline c.args.all.now) c.lines.code c.read_line.new.code left later whole n.ahead c.requires.outline r.said r.fine r.code i.read;
+      after = sym n.after ∙ i.after;
+      count = omega (arith, n.number, ap length n.lines, i.count);
+    }
+
+pub lines-preserved : goal.lines-preserved
+lines-preserved c =
+    let n : TakesInside c.lines.lines c.in-Some.row c.next_inside.new.self = rw c.in-Some.is at c.in_ok-row.ensures in
+    let chs = channels (words_seen c.args.names.now.keys) c.args.kinds.now in
+    let whole = ahead c.args.lines.now.lines in
+    let left = ahead c.lines.lines.lines in
+    let later = ahead c.next_inside.new.self.lines in
+    let i = c.lines.invariant in
+    let r = c.in_ok-read_line.ensures in record {
+      read = read_on chs c.in-Some.row (seen_said c.lines.now) (seen_said c.read_line.new.now) (seen_outline c.args.all.now) c.lines.code c.read_line.new.code left later whole n.ahead c.requires.outline r.said r.fine r.code i.read;
+      after = sym n.after ∙ i.after;
+      count = omega (arith, n.number, ap length n.lines, i.count);
+    }
+
+pub returns-in_err-read_line-clause-cause : goal.returns-in_err-read_line-clause-cause
+returns-in_err-read_line-clause-cause c =
+    let n : TakesInside c.lines.lines c.in-Some.row c.next_inside.new.self = rw c.in-Some.is at c.in_ok-row.ensures in
+    let chs = channels (words_seen c.args.names.now.keys) c.args.kinds.now in
+    let whole = ahead c.args.lines.now.lines in
+    let left = ahead c.lines.lines.lines in
+    let later = ahead c.next_inside.new.self.lines in
+    let k : Causes c.in_err-read_line.field-0.0 (lines_fault chs whole) = fault_on chs c.in-Some.row (seen_said c.lines.now) (seen_outline c.args.all.now) c.lines.code c.in_err-read_line.field-0.0 left later whole n.ahead c.requires.outline c.in_err-read_line.ensures.cause c.lines.invariant.read in
+    passed_up c.from_residual-in_err-read_line.result c.in_err-read_line.field-0.0 (λ why. Causes why (lines_fault chs whole)) c.from_residual-in_err-read_line.ensures.1 k
+
+pub returns-clause-free : goal.returns-clause-free
+returns-clause-free c =
+    let n : IsAtEnd c.lines.lines c.next_inside.new.self = rw c.in_default.is at c.in_ok-row.ensures in
+    let chs = channels (words_seen c.args.names.now.keys) c.args.kinds.now in
+    let whole = ahead c.args.lines.now.lines in
+    let left = ahead c.lines.lines.lines in
+    free_all chs (seen_said c.lines.now) c.lines.code left whole n.none c.lines.invariant.read
+
+pub returns-clause-said : goal.returns-clause-said
+returns-clause-said c =
+    let n : IsAtEnd c.lines.lines c.next_inside.new.self = rw c.in_default.is at c.in_ok-row.ensures in
+    let chs = channels (words_seen c.args.names.now.keys) c.args.kinds.now in
+    let whole = ahead c.args.lines.now.lines in
+    let left = ahead c.lines.lines.lines in
+    read_all chs (seen_said c.lines.now) c.lines.code left whole n.none c.lines.invariant.read
+
+pub returns-clause-code : goal.returns-clause-code
+returns-clause-code c =
+    let n : IsAtEnd c.lines.lines c.next_inside.new.self = rw c.in_default.is at c.in_ok-row.ensures in
+    let chs = channels (words_seen c.args.names.now.keys) c.args.kinds.now in
+    let whole = ahead c.args.lines.now.lines in
+    let left = ahead c.lines.lines.lines in
+    coded_all chs (seen_said c.lines.now) c.lines.code left whole n.none c.lines.invariant.read

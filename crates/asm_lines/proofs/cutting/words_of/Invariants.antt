@@ -1,8 +1,8 @@
 use Rattle.std.proofs.Common.{◌≡◌, ◌≤◌, ◌-◌, ◌++◌, [], map, take, drop}
-use Rattle.asm_lines.specs.Cutting.{words_from}
+use Rattle.asm_lines.specs.Cutting.{words_from, told}
 use Rattle.asm_lines.proofs.cutting.words_of.Given as goal
 
 abbrev pub invariant-loop-i : goal.invariant-loop-i
 invariant-loop-i l =
     (l.start ≤ l.i)
-    × (map (λ w. w.now) l.words.items ++ words_from (take (l.i - l.start) (drop l.start l.line)) (drop l.i l.line) ≡ words_from [] l.line)
+    × (map (λ w. w.now) l.words.items ++ words_from (take (l.i - l.start) (drop l.start l.line)) (told (drop l.i l.line)) ≡ words_from [] (told l.line))

@@ -1,20 +1,77 @@
-use Rattle.std.proofs.Common.{◌≡◌, ◌+◌, List, drop, true, sym, ap, ◌∙◌, subst}
-use Rattle.std.proofs.lemmas.List.{take_rest}
-use Rattle.asm_lines.specs.Cutting.{TextLine}
+use Rattle.std.proofs.Common.{[], ap, arith, length}
 use Rattle.asm_lines.specs.Faults.{Causes}
+use Rattle.asm_lines.specs.Sections.{Takes, IsDone}
 use Rattle.asm_lines.specs.Tables.{words_seen}
+use Rattle.asm_lines.proofs.Causing.{passed_up}
+use Rattle.asm_lines.proofs.Counting.{few_ahead, few_after}
 use Rattle.asm_header.specs.Views.{seen_header}
-use Rattle.asm_text.specs.Contexts.{starts, ahead, context_fault}
-use Rattle.asm_text.proofs.Walking.{caused_here}
+use Rattle.asm_text.specs.Contexts.{contexts_fault}
+use Rattle.asm_text.proofs.Walking.{unread, read_on, caused_here, all_free, all_programs, all_counted}
 use Rattle.asm_text.proofs.context.read_contexts.Goals as goal
 
-pub returns-in-Err-clause-cause : goal.returns-in-Err-clause-cause
-returns-in-Err-clause-cause c =
-    let rows = c.args.rows.now in
-    let x = c.index-rows-i.result in
+pub read_one-requires-clause-few : goal.read_one-requires-clause-few
+read_one-requires-clause-few c =
+    let n : Takes c.contexts.lines c.in-Some.row c.next.new.self = rw c.in-Some.is at c.in_ok-row.ensures in
+    omega (arith, c.requires.few, few_ahead c.next.new.self.lines, ap length n.lines, c.contexts.invariant.few)
+
+pub returns-in_err-program-clause-cause : goal.returns-in_err-program-clause-cause
+returns-in_err-program-clause-cause c =
+    let n : Takes c.contexts.lines c.in-Some.row c.next.new.self = rw c.in-Some.is at c.in_ok-row.ensures in
     let h = seen_header c.args.header.now in
-    let names = words_seen c.loop-i.names.keys in
-    let s : starts x.words ≡ true = ap starts (sym c.words.ensures) ∙ sym c.starts.ensures ∙ c.if-not-starts.false in
-    let b : c.ahead.result.now ≡ ahead (drop (c.loop-i.i + 1) rows) = rw take_rest at c.ahead.ensures.lines in
-    caused_here c.in-Err.why h names rows c.loop-i.i x _ c.loop-i.invariant.0 c.loop-i-test.true c.index-rows-i.is s
-    (subst (λ (ls : List TextLine). Causes c.in-Err.why (context_fault h names x ls)) b c.in-Err.ensures.cause)
+    let names = words_seen c.contexts.names.keys in
+    let all = contexts_fault h [] c.args.lines.now.lines in
+    let k : Causes c.in_err-program.field-0.0 all = caused_here c.in_err-program.field-0.0 h names c.contexts.all c.in-Some.row c.contexts.lines c.next.new.self c.args.lines.now n c.in_err-program.ensures.cause c.contexts.invariant in
+    passed_up c.from_residual-in_err-program.result c.in_err-program.field-0.0 (λ why. Causes why all) c.from_residual-in_err-program.ensures.1 k
+
+pub contexts-init : goal.contexts-init
+contexts-init c =
+    unread (seen_header c.args.header.now) (words_seen c.new-names.result.keys) c.new-all.result c.args.lines.now (ap words_seen c.new-names.ensures.empty) c.new-all.ensures c.requires.there
+
+pub returns-clause-free : goal.returns-clause-free
+returns-clause-free c =
+    let n : IsDone c.contexts.lines c.next.new.self = rw c.in_default.is at c.in_ok-row.ensures in
+    let h = seen_header c.args.header.now in
+    let names = words_seen c.contexts.names.keys in
+    all_free h names c.contexts.all c.contexts.lines c.args.lines.now n.none c.contexts.invariant
+
+pub returns-clause-programs : goal.returns-clause-programs
+returns-clause-programs c =
+    let n : IsDone c.contexts.lines c.next.new.self = rw c.in_default.is at c.in_ok-row.ensures in
+    let h = seen_header c.args.header.now in
+    let names = words_seen c.contexts.names.keys in
+    all_programs h names c.contexts.all c.contexts.lines c.args.lines.now n.none c.contexts.invariant
+
+pub returns-clause-count : goal.returns-clause-count
+returns-clause-count c =
+    let n : IsDone c.contexts.lines c.next.new.self = rw c.in_default.is at c.in_ok-row.ensures in
+    let h = seen_header c.args.header.now in
+    let names = words_seen c.contexts.names.keys in
+    all_counted h names c.contexts.all c.contexts.lines c.next.new.self c.args.lines.now n.none n.same c.contexts.invariant
+
+pub contexts-preserved-in-Ok : goal.contexts-preserved-in-Ok
+contexts-preserved-in-Ok c =
+    let n : Takes c.contexts.lines c.in-Some.row c.next.new.self = rw c.in-Some.is at c.in_ok-row.ensures in
+    let h = seen_header c.args.header.now in
+    let names = words_seen c.contexts.names.keys in
+    let r = c.in_ok-program.ensures in
+    read_on h names (words_seen c.read_one.new.names.keys) c.contexts.all c.push.new.self c.in-Some.row c.in_ok-program.program c.contexts.lines c.next.new.self c.read_one.new.lines c.args.lines.now n r.past r.names r.free r.program c.in-Ok.ensures.ok c.contexts.invariant
+
+pub contexts-preserved : goal.contexts-preserved
+contexts-preserved c =
+    let n : Takes c.contexts.lines c.in-Some.row c.next.new.self = rw c.in-Some.is at c.in_ok-row.ensures in
+    let h = seen_header c.args.header.now in
+    let names = words_seen c.contexts.names.keys in
+    let r = c.in_ok-program.ensures in
+    read_on h names (words_seen c.read_one.new.names.keys) c.contexts.all c.push.new.self c.in-Some.row c.in_ok-program.program c.contexts.lines c.next.new.self c.read_one.new.lines c.args.lines.now n r.past r.names r.free r.program c.in-Ok.ensures.ok c.contexts.invariant
+
+pub contexts-smaller-in-Ok : goal.contexts-smaller-in-Ok
+contexts-smaller-in-Ok c =
+    let n : Takes c.contexts.lines c.in-Some.row c.next.new.self = rw c.in-Some.is at c.in_ok-row.ensures in
+    let r = c.in_ok-program.ensures in
+    omega (arith, ap length r.past.after, few_after c.next.new.self.lines, ap length n.lines)
+
+pub contexts-smaller : goal.contexts-smaller
+contexts-smaller c =
+    let n : Takes c.contexts.lines c.in-Some.row c.next.new.self = rw c.in-Some.is at c.in_ok-row.ensures in
+    let r = c.in_ok-program.ensures in
+    omega (arith, ap length r.past.after, few_after c.next.new.self.lines, ap length n.lines)
