@@ -1,5 +1,6 @@
 pub mod Reporting
 pub mod Telling
+pub mod Preparing
 pub mod Worked
 pub mod Replaying
 pub mod Soaking

@@ -68,7 +68,7 @@ pub report_served : (in_rounds : Bool) (steps : ℕ) (m : Image) (need : Option 
 report_served in_rounds steps m need start now answer text r = subst IsServed (sym r.answered) (ended_served r.end r.last.core.phases)
 
 -- what is served is not refused
-pub not_refused : (answer : Status) → IsServed answer → IsRefusal answer → ⊥
+not_refused : (answer : Status) → IsServed answer → IsRefusal answer → ⊥
 not_refused status.Done served refused = refused
 not_refused status.Usage served refused = served
 not_refused status.BadBundle served refused = served
@@ -83,6 +83,10 @@ not_refused status.NoMemory served refused = served
 not_refused status.TooLong served refused = served
 not_refused status.BadJournal served refused = served
 not_refused status.Idle served refused = refused
+
+-- a report is not that of a refusal
+pub report_goes : (in_rounds : Bool) (steps : ℕ) (m : Image) (need : Option ℕ) (start now : List Told) (answer : Status) (text : List ℕ) → IsReport in_rounds steps m need start now answer text → IsRefusal answer → ⊥
+report_goes in_rounds steps m need start now answer text r = not_refused answer (report_served in_rounds steps m need start now answer text r)
 
 pub not_both : (answer : Status) (b : Bundle) (text : List ℕ) → DoesNotFit answer b text → FitsFile b → ⊥
 not_both answer b text short fits =

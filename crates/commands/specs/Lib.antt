@@ -1,5 +1,6 @@
 pub mod StatusCodes
 pub mod Reports
 pub mod Tells
+pub mod Openings
 pub mod Soaks
 pub mod Journals

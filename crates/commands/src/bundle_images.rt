@@ -1,62 +1,48 @@
-//! What is told of a bundle's image: the report of its run, or its bytes.
+//! What a bundle's image comes to: the opening of its run, or its bytes.
 
-ghost use Rattle.std.specs.Prelude.{◌≡◌, ◌≤◌, IfOk, Some, length, map};
+ghost use Rattle.std.specs.Prelude.{◌≤◌, IfOk, Some};
 ghost use Rattle.micro_isa.specs.Formed.{IsFormedBundle, IsFormedImage};
-ghost use Rattle.commands.specs.Reports.{IsReport};
-ghost use Rattle.commands.specs.Tells.{RunTells, BuildTells, IsWritten, IsServed, IsRefusal};
+ghost use Rattle.commands.specs.Openings.{ComesTo, IsOpening, ToldOfRun};
+ghost use Rattle.commands.specs.Tells.{BuildTells, IsWritten};
 
-use crate::image_runs::run_image;
+use crate::image_runs::open_run;
 use crate::no_fit::no_fit;
+use crate::prepared::{Opening, Prepared};
 use crate::status::Status;
 use crate::task::Reply;
 use allocate::{AllocFault, Allocation, allocate};
-use context_runner::Runner;
 use image_load::write_image;
-use micro_isa::{Bundle, Image, MOST_PORTS, MOST_STEPS, NoMemory};
-use ports::Port;
+use micro_isa::{Bundle, Image, MOST_STEPS, NoMemory};
 use std::alloc::Global;
 
-/// The report of the run of a bundle's image with these ports, where the bundle fits its file.
-#[tactic(auto, using(crate::proofs::Telling::run_tells, crate::proofs::Telling::run_does_not_fit, crate::proofs::Telling::not_refused))]
-pub(crate) fn run_bundle<P: Port + Send, X: Runner>(
-    alloc: Global,
-    bundle: &Bundle,
-    steps: u32,
-    ports: Vec<P>,
-    runner: &X,
-) -> (Result<Reply, NoMemory>, Vec<P>)
+/// The opening of the run of a bundle's image, where the bundle fits its file.
+#[tactic(auto, using(crate::proofs::Preparing::run_is_told))]
+pub(crate) fn run_bundle(alloc: Global, bundle: &Bundle, steps: u32) -> Result<Prepared, NoMemory>
     requires formed { IsFormedBundle bundle.now }
     requires bound { steps ≤ MOST_STEPS }
-    requires few { length ports.items ≤ MOST_PORTS }
-    ensures tells { IfOk result.0 (λ r. RunTells X.in_rounds steps r.status bundle.now (map P.tells ports.items) (map P.tells result.1.items) r.text.items) }
-    ensures as_many { length result.1.items ≡ length ports.items }
-    ensures refused { IfOk result.0 (λ r. IsRefusal r.status → result.1 ≡ ports) }
+    ensures { IfOk result (ComesTo (ToldOfRun steps bundle.now)) }
 {
     match allocate(alloc, bundle) {
-        Ok(allocation) => run_allocated(alloc, allocation, steps, ports, runner),
-        Err(AllocFault::NoFit { need, file }) => (no_fit(alloc, need, file), ports),
-        Err(AllocFault::NoMemory) => (Err(NoMemory), ports),
+        Ok(allocation) => match open_allocated(alloc, allocation, steps) {
+            Ok(opening) => Ok(Prepared::Run(opening)),
+            Err(NoMemory) => Err(NoMemory),
+        },
+        Err(AllocFault::NoFit { need, file }) => match no_fit(alloc, need, file) {
+            Ok(reply) => Ok(Prepared::Reply(reply)),
+            Err(NoMemory) => Err(NoMemory),
+        },
+        Err(AllocFault::NoMemory) => Err(NoMemory),
     }
 }
 
-/// The report of the run of an allocation's image, which is taken out of it.
-#[tactic(auto, using(crate::proofs::Telling::report_served))]
-fn run_allocated<P: Port + Send, X: Runner>(
-    alloc: Global,
-    allocation: Allocation,
-    steps: u32,
-    ports: Vec<P>,
-    runner: &X,
-) -> (Result<Reply, NoMemory>, Vec<P>)
+/// The opening of the run of an allocation's image, which is taken out of it.
+fn open_allocated(alloc: Global, allocation: Allocation, steps: u32) -> Result<Opening, NoMemory>
     requires formed { IsFormedImage allocation.image }
     requires bound { steps ≤ MOST_STEPS }
-    requires few { length ports.items ≤ MOST_PORTS }
-    ensures report { IfOk result.0 (λ r. IsReport X.in_rounds steps allocation.image (Some allocation.need) (map P.tells ports.items) (map P.tells result.1.items) r.status r.text.items) }
-    ensures served { IfOk result.0 (λ r. IsServed r.status) }
-    ensures as_many { length result.1.items ≡ length ports.items }
+    ensures { IfOk result (IsOpening steps allocation.image (Some allocation.need)) }
 {
     let need = allocation.need;
-    run_image(alloc, allocation.image, Some(need), steps, ports, runner)
+    open_run(alloc, allocation.image, Some(need), steps)
 }
 
 /// The bytes of a bundle's image, where the bundle fits its file.

@@ -1,49 +1,42 @@
 //! What each task does with a bundle.
 
-ghost use Rattle.std.specs.Prelude.{◌≡◌, ◌≤◌, IfOk, false, length, map};
+ghost use Rattle.std.specs.Prelude.{◌≡◌, ◌≤◌, IfOk, false};
 ghost use Rattle.micro_isa.specs.Formed.{IsFormedBundle};
 ghost use Rattle.asm_print.specs.Canonical.{canonical_text};
 ghost use Rattle.report_check.specs.Checks.{IsCheckOf};
-ghost use Rattle.commands.specs.Tells.{steps_of_bundle, TellsOfBundle, RunsBundleBy, runs_bundle, Fits, IsServed, IsRefusal};
+ghost use Rattle.commands.specs.Openings.{ComesTo, IsReply, ToldOfBundle};
+ghost use Rattle.commands.specs.Tells.{steps_of_bundle, runs_bundle};
 ghost use Rattle.commands.specs.declared.status.Status.TheVariants as status;
 
 use crate::bundle_images::{build_bundle, run_bundle};
+use crate::prepared::Prepared;
 use crate::sources::run_sources;
 use crate::status::Status;
 use crate::task::{BundleTask, Reply};
 use asm_print::print_bundle;
-use context_runner::Runner;
-use micro_isa::{Bundle, MOST_PORTS, MOST_STEPS, NoMemory};
-use ports::Port;
+use micro_isa::{Bundle, MOST_STEPS, NoMemory};
 use report_check::print_check;
 use std::alloc::Global;
 
-/// Does a task with a formed bundle and these ports, which are given back. Only the run of an image
-/// asks them or hands them anything.
-#[tactic(auto, using(crate::proofs::Telling::served))]
-pub fn perform_on_bundle<P: Port + Send, X: Runner>(
+/// Does a task with a formed bundle, up to what asks ports or hands them anything: only the run of an
+/// image does.
+#[tactic(auto, using(crate::proofs::Preparing::source_is_told, crate::proofs::Preparing::build_is_told, crate::proofs::Preparing::format_is_told, crate::proofs::Preparing::check_is_told))]
+pub fn prepare_bundle(
     alloc: Global,
     task: BundleTask,
     bundle: &Bundle,
-    ports: Vec<P>,
-    runner: &X,
-) -> (Result<Reply, NoMemory>, Vec<P>)
+) -> Result<Prepared, NoMemory>
     requires formed { IsFormedBundle bundle.now }
     requires bounded { steps_of_bundle task ≤ MOST_STEPS }
-    requires few { length ports.items ≤ MOST_PORTS }
-    requires order { RunsBundleBy X.in_rounds task }
-    ensures tells { IfOk result.0 (λ r. TellsOfBundle task r.status bundle.now (map P.tells ports.items) (map P.tells result.1.items) r.text.items) }
-    ensures served { IfOk result.0 (λ r. Fits task bundle.now → IsServed r.status) }
-    ensures as_many { length result.1.items ≡ length ports.items }
-    ensures aside { runs_bundle task ≡ false → result.1 ≡ ports }
-    ensures refused { IfOk result.0 (λ r. IsRefusal r.status → result.1 ≡ ports) }
+    ensures comes { IfOk result (ComesTo (ToldOfBundle task bundle.now)) }
+    ensures aside { runs_bundle task ≡ false → IfOk result IsReply }
 {
     match task {
-        BundleTask::Run { steps, order: _ } => run_bundle(alloc, bundle, steps, ports, runner),
-        BundleTask::Source { steps } => (run_sources(alloc, bundle, steps), ports),
-        BundleTask::Build => (build_bundle(alloc, bundle), ports),
-        BundleTask::Format => (format_bundle(alloc, bundle), ports),
-        BundleTask::Check => (check_bundle(alloc, bundle), ports),
+        BundleTask::Run { steps, order: _ } => run_bundle(alloc, bundle, steps),
+        BundleTask::Source { steps } => Ok(Prepared::Reply(run_sources(alloc, bundle, steps)?)),
+        BundleTask::Build => Ok(Prepared::Reply(build_bundle(alloc, bundle)?)),
+        BundleTask::Format => Ok(Prepared::Reply(format_bundle(alloc, bundle)?)),
+        BundleTask::Check => Ok(Prepared::Reply(check_bundle(alloc, bundle)?)),
     }
 }
 

@@ -1,62 +1,88 @@
 //! The run of an image, and the report of it.
 
-ghost use Rattle.std.specs.Prelude.{◌≡◌, ◌≤◌, IfOk, Some, [], length, map};
+ghost use Rattle.std.specs.Prelude.{◌≡◌, ◌≤◌, IfOk, Some, [], false, length, map, true};
 ghost use Rattle.micro_isa.specs.Formed.{IsFormedImage};
 ghost use Rattle.semantics.specs.Core.{shown_core};
 ghost use Rattle.run_journal.specs.Histories.{run_ending, bound_of};
 ghost use Rattle.report_run.specs.Report.{report_text};
+ghost use Rattle.commands.specs.Openings.{IsOpening};
 ghost use Rattle.commands.specs.Reports.{IsReport, status_so_far};
+ghost use Rattle.commands.specs.Tells.{IsRefusal};
 
+use crate::prepared::Opening;
 use crate::reports::status_so_far;
 use crate::task::Reply;
-use context_runner::{Closed, Runner};
+use context_runner::{Closed, InRounds, Runner, run_in_threads};
 use engine_core::Engine;
 use micro_isa::{Image, List, MOST_PORTS, MOST_STEPS, NoMemory};
+use micro_kit::Gate;
 use ports::{Port, Slots};
 use report_run::{Outcome, print_report};
 use run_journal::Run;
 use std::alloc::Global;
+use std::sync::Wait;
+use std::thread::Threads;
 use world::End;
 
-/// The report of the run of an image with these ports, which are given back.
-pub(crate) fn run_image<P: Port + Send, X: Runner>(
+/// The opening of the run of an image.
+pub(crate) fn open_run(
     alloc: Global,
     image: Image,
     need: Option<u32>,
     steps: u32,
-    ports: Vec<P>,
-    runner: &X,
-) -> (Result<Reply, NoMemory>, Vec<P>)
+) -> Result<Opening, NoMemory>
     requires formed { IsFormedImage image }
     requires bound { steps ≤ MOST_STEPS }
-    requires few { length ports.items ≤ MOST_PORTS }
-    ensures report { IfOk result.0 (λ r. IsReport X.in_rounds steps image need (map P.tells ports.items) (map P.tells result.1.items) r.status r.text.items) }
-    ensures as_many { length result.1.items ≡ length ports.items }
+    ensures { IfOk result (IsOpening steps image need) }
 {
     match Run::of(alloc, image, steps) {
-        Ok(run) => run_on(alloc, run, need, ports, runner),
-        Err(NoMemory) => (Err(NoMemory), ports),
+        Ok(run) => Ok(Opening { run, need }),
+        Err(NoMemory) => Err(NoMemory),
     }
 }
 
-/// Attaches ports to the opening of a run, brings it to an ending and reports it.
-#[tactic(auto, using(crate::proofs::Reporting::report_is))]
-fn run_on<P: Port + Send, X: Runner>(
+/// The report of a run with these ports, which goes from its opening to an ending in round order, and
+/// the ports.
+#[tactic(auto, using(crate::proofs::Reporting::report_is, crate::proofs::Telling::report_goes))]
+pub fn report_in_rounds<P: Port + Send>(
     alloc: Global,
-    run: Run,
-    need: Option<u32>,
+    opening: Opening,
     ports: Vec<P>,
-    runner: &X,
 ) -> (Result<Reply, NoMemory>, Vec<P>)
-    requires opens { run.entries ≡ [] }
+    requires opens { opening.run.entries ≡ [] }
     requires few { length ports.items ≤ MOST_PORTS }
-    ensures report { IfOk result.0 (λ r. IsReport X.in_rounds (bound_of run.engine) run.engine.image need (map P.tells ports.items) (map P.tells result.1.items) r.status r.text.items) }
+    ensures report { IfOk result.0 (λ r. IsReport true (bound_of opening.run.engine) opening.run.engine.image opening.need (map P.tells ports.items) (map P.tells result.1.items) r.status r.text.items) }
+    ensures goes { IfOk result.0 (λ r. IsRefusal r.status → ⊥) }
     ensures as_many { length result.1.items ≡ length ports.items }
 {
-    let mut run = run;
+    let Opening { mut run, need } = opening;
     let slots = Slots::of(ports);
     run.attach(&slots);
-    match runner.bring(alloc, run, slots) {
+    match InRounds.bring(alloc, run, slots) {
+        Ok(closed) => report_of_closed(alloc, need, closed),
+        Err(closed) => (Err(NoMemory), ports_of(closed)),
+    }
+}
+
+/// The same where each context has a thread of its own.
+#[tactic(auto, using(crate::proofs::Reporting::report_is, crate::proofs::Telling::report_goes))]
+pub fn report_in_threads<P: Port + Send, R: Threads + Wait + Sync, G: Gate + Sync>(
+    rt: &R,
+    gate: &G,
+    alloc: Global,
+    opening: Opening,
+    ports: Vec<P>,
+) -> (Result<Reply, NoMemory>, Vec<P>)
+    requires opens { opening.run.entries ≡ [] }
+    requires few { length ports.items ≤ MOST_PORTS }
+    ensures report { IfOk result.0 (λ r. IsReport false (bound_of opening.run.engine) opening.run.engine.image opening.need (map P.tells ports.items) (map P.tells result.1.items) r.status r.text.items) }
+    ensures goes { IfOk result.0 (λ r. IsRefusal r.status → ⊥) }
+    ensures as_many { length result.1.items ≡ length ports.items }
+{
+    let Opening { mut run, need } = opening;
+    let slots = Slots::of(ports);
+    run.attach(&slots);
+    match run_in_threads(rt, gate, alloc, run, slots) {
         Ok(closed) => report_of_closed(alloc, need, closed),
         Err(closed) => (Err(NoMemory), ports_of(closed)),
     }

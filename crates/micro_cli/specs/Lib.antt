@@ -3,3 +3,4 @@ pub mod Lines
 pub mod Answers
 pub mod Calls
 pub mod Silences
+pub mod Preparing

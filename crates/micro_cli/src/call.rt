@@ -1,11 +1,11 @@
-ghost use Rattle.std.specs.Prelude.{◌≡◌, ◌≤◌, IfSome, false, length, map, string_bytes};
+ghost use Rattle.std.specs.Prelude.{◌≡◌, ◌≤◌, IfSome, false, length, map, string_bytes, true};
 ghost use Rattle.micro_cli.specs.Words.{job_asked, IsBoundedJob, JobRunsBy};
 ghost use Rattle.micro_cli.specs.Calls.{Finishes, HasNoCause, IsServedOrFree, LeavesPorts, outside};
 
-use crate::command::{Silence, reply_to_job};
+use crate::command::Silence;
+use crate::ordered_replies::reply_in_rounds;
 use crate::words::job_asked;
 use commands::{Job, Status};
-use context_runner::{InRounds, Runner};
 use micro_isa::{MOST_PORTS, NoMemory};
 use micro_kit::{Sink, Source, write_all};
 use ports::Port;
@@ -44,7 +44,7 @@ pub fn plain_call<I: Source, O: Sink>(
 {
     match job_asked(alloc, words, false) {
         Ok(wanted) => {
-            let (status, ports) = call(alloc, wanted, input, output, ports, &InRounds);
+            let (status, ports) = call_in_rounds(alloc, wanted, input, output, ports);
             Finish { status, ports }
         }
         Err(NoMemory) => Finish {
@@ -54,44 +54,41 @@ pub fn plain_call<I: Source, O: Sink>(
     }
 }
 
-/// The same for the job that the words ask for, with a runner of its order.
-
-fn call<I: Source, O: Sink, P: Port + Send, X: Runner>(
+/// The same for the job that the words ask for.
+pub(crate) fn call_in_rounds<I: Source, O: Sink, P: Port + Send>(
     alloc: Global,
     wanted: Option<Job>,
     input: &mut I,
     output: &mut O,
     ports: Vec<P>,
-    runner: &X,
 ) -> (Status, Vec<P>)
     requires bounded { IfSome wanted IsBoundedJob }
-    requires order { IfSome wanted (JobRunsBy X.in_rounds) }
+    requires order { IfSome wanted (JobRunsBy true) }
     requires few { length ports.items ≤ MOST_PORTS }
     ensures finishes { Finishes result.0 wanted (outside I.left I.faults O.wrote O.faults P.tells input.old input.new output.old output.new ports.items result.1.items) }
     ensures complete { HasNoCause wanted (outside I.left I.faults O.wrote O.faults P.tells input.old input.new output.old output.new ports.items result.1.items) → IsServedOrFree result.0 }
     ensures as_many { length result.1.items ≡ length ports.items }
     ensures untouched { LeavesPorts wanted result.0 → result.1 ≡ ports }
 {
-    serve(alloc, wanted, input, output, ports, runner)
+    serve_in_rounds(alloc, wanted, input, output, ports)
 }
 
 #[tactic(auto, using(crate::proofs::Finishing::written_whole, crate::proofs::Finishing::cut_short, crate::proofs::Finishing::not_read, crate::proofs::Finishing::no_memory))]
-fn serve<I: Source, O: Sink, P: Port + Send, X: Runner>(
+fn serve_in_rounds<I: Source, O: Sink, P: Port + Send>(
     alloc: Global,
     wanted: Option<Job>,
     input: &mut I,
     output: &mut O,
     ports: Vec<P>,
-    runner: &X,
 ) -> (Status, Vec<P>)
     requires bounded { IfSome wanted IsBoundedJob }
-    requires order { IfSome wanted (JobRunsBy X.in_rounds) }
+    requires order { IfSome wanted (JobRunsBy true) }
     requires few { length ports.items ≤ MOST_PORTS }
     ensures finishes { Finishes result.0 wanted (outside I.left I.faults O.wrote O.faults P.tells input.old input.new output.old output.new ports.items result.1.items) }
     ensures as_many { length result.1.items ≡ length ports.items }
     ensures untouched { LeavesPorts wanted result.0 → result.1 ≡ ports }
 {
-    let (reply, ports) = reply_to_job(alloc, wanted, input, ports, runner);
+    let (reply, ports) = reply_in_rounds(alloc, wanted, input, ports);
     match reply {
         Ok(reply) => match write_all(output, &reply.text) {
             Ok(()) => (reply.status, ports),

@@ -7,9 +7,12 @@ mod command;
 mod image_replies;
 mod journal_replies;
 mod lines;
+mod ordered_replies;
 #[cfg(test)]
 mod tests;
+mod thread_call;
 mod words;
 
 pub use call::{Finish, plain_call};
 pub use commands::Status;
+pub use thread_call::micro;

@@ -1,7 +1,7 @@
 //! The task that the words of the command line ask for.
 
 ghost use Rattle.std.specs.Prelude.{◌≡◌, ◌≤◌, IfOk, IfSome, map, string_bytes, true, false};
-ghost use Rattle.commands.specs.Tells.{IsBounded, RunsBy};
+ghost use Rattle.commands.specs.Tells.{IsBounded, RunsBy, is_round};
 ghost use Rattle.micro_cli.specs.Words.{order_for, task_of, job_of, job_asked, IsBoundedJob, JobRunsBy};
 
 use command_words::{Meaning, Turns, Verb, read_words};
@@ -74,5 +74,42 @@ fn order_for(turns: Turns, threads: bool) -> Option<Order>
         (Turns::Round, _) => Some(Order::Round),
         (Turns::Threads, true) => Some(Order::Threads),
         (Turns::Threads, false) => None,
+    }
+}
+
+/// Whether a job runs an image in thread order.
+pub(crate) fn in_threads(wanted: Option<Job>) -> bool
+    ensures threads { result ≡ true → IfSome wanted (JobRunsBy false) }
+    ensures rounds { result ≡ false → IfSome wanted (JobRunsBy true) }
+{
+    match wanted {
+        Some(Job::OfInput(task)) => task_in_threads(task),
+        Some(Job::Soak { number: _ }) => false,
+        None => false,
+    }
+}
+
+fn task_in_threads(task: Task) -> bool
+    ensures threads { result ≡ true → RunsBy false task }
+    ensures rounds { result ≡ false → RunsBy true task }
+{
+    match task {
+        Task::OfBundle(BundleTask::Run { steps: _, order }) => is_threads(order),
+        Task::OfBundle(BundleTask::Source { steps: _ }) => false,
+        Task::OfBundle(BundleTask::Build) => false,
+        Task::OfBundle(BundleTask::Format) => false,
+        Task::OfBundle(BundleTask::Check) => false,
+        Task::OfImage(ImageTask::Exec { steps: _, order }) => is_threads(order),
+        Task::OfJournal(_) => false,
+    }
+}
+
+fn is_threads(order: Order) -> bool
+    ensures threads { result ≡ true → is_round order ≡ false }
+    ensures rounds { result ≡ false → is_round order ≡ true }
+{
+    match order {
+        Order::Round => false,
+        Order::Threads => true,
     }
 }

@@ -1,9 +1,0 @@
-use Rattle.micro_cli.specs.Calls.{outside}
-use Rattle.micro_cli.proofs.Finishing.{completes}
-use Rattle.micro_cli.proofs.call.call.Goals as goal
-
-pub returns-clause-complete : goal.returns-clause-complete
-returns-clause-complete g c =
-    completes c.serve.result.0 c.args.wanted
-    (outside g.I.Source.left g.I.Source.faults g.O.Sink.wrote g.O.Sink.faults g.P.Port.tells c.args.input.now c.serve.new.input c.args.output.now c.serve.new.output c.args.ports.items c.serve.result.1.items)
-    c.serve.ensures.finishes
