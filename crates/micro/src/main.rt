@@ -1,8 +1,8 @@
 //! The program: its words, standard input and output and its two ports, handed to the commands.
 #![tactic(auto)]
 
-use micro_cli::{Status, plain_call};
-use micro_kit::{StdSink, StdSource};
+use micro_cli::{Status, micro};
+use micro_kit::{NoGate, StdSink, StdSource};
 use ports::{Port, Ramp, Tally};
 use std::process::ExitCode;
 use std::{env, io};
@@ -31,7 +31,15 @@ fn main(rt: HostRuntime) -> ExitCode {
 
     let mut input = StdSource::of(rt.stdin());
     let mut output = StdSink::of(rt.stdout());
-    let finish = plain_call(rt.alloc(), &words, &mut input, &mut output, ports);
+    let finish = micro(
+        &rt,
+        rt.alloc(),
+        &words,
+        &mut input,
+        &mut output,
+        ports,
+        &NoGate,
+    );
     ExitCode::from(finish.status.code())
 }
 
