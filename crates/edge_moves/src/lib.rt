@@ -9,8 +9,6 @@ mod source_table;
 mod step;
 mod steps;
 mod taking;
-#[cfg(test)]
-mod tests;
 
 pub use both::Costs;
 pub use counting::{cost, costs};

@@ -3,4 +3,3 @@ pub mod Spreading
 pub mod Numbering
 pub mod Merging
 pub mod Switching
-pub mod Closed

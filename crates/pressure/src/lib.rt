@@ -14,6 +14,3 @@ pub use boundary::boundaries;
 pub use joint_need::need;
 pub use pressure_of::{Pressure, pressures};
 pub use region::Regions;
-
-#[cfg(test)]
-mod tests;

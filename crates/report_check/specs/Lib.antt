@@ -1,4 +1,3 @@
 pub mod Text
 pub mod Facts
 pub mod Checks
-pub mod Example

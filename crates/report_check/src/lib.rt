@@ -5,6 +5,3 @@ mod facts;
 mod text;
 
 pub use text::print_check;
-
-#[cfg(test)]
-mod tests;
