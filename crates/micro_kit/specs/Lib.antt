@@ -1,3 +1,5 @@
 pub mod Memory
 pub mod Numbers
+pub mod Standard
 pub mod Streams
+pub mod Text
