@@ -3,7 +3,7 @@
 ghost use Rattle.std.specs.Prelude.{◌≡◌, ◌≤◌, length, None, IfOk, IfErr, OnOk};
 ghost use Rattle.image_load.specs.Faults.{Gives, Causes};
 ghost use Rattle.image_load.specs.Spelling.{Spells, SpellsAlone};
-ghost use Rattle.image_load.specs.Laws.{IsShortWhereCut, IsTrailingBehind};
+ghost use Rattle.image_load.specs.Laws.{IsShortWhereCut, IsTrailingBehind, StaysWhateverFollows};
 ghost use Rattle.image_load.specs.Loading.{front_at, image_read, image_fault, Unspelled};
 
 use crate::channels::channels_at;
@@ -81,6 +81,8 @@ pub fn read_image(alloc: Global, bytes: &[u8]) -> Result<Image, ImageFault>
     // Every front of a spelling is short at its end, and what stands behind a spelling is told.
     ensures cut { IsShortWhereCut bytes.now }
     ensures behind { IsTrailingBehind bytes.now }
+    // A fault that is found from front to back stays whatever follows.
+    ensures stays { StaysWhateverFollows bytes.now }
 {
     read(alloc, bytes)
 }
