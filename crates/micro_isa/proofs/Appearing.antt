@@ -12,15 +12,15 @@ or_when : (a b : Bool) → (a ≡ false → b ≡ true) → (a || b) ≡ true
 or_when true b h = refl
 or_when false b h = h refl
 
-range_holds : (a n k : ℕ) → a ≤ k → k < a + n → list_any (λ s. s == k) (range_with_len a n) ≡ true
+pub range_holds : (a n k : ℕ) → a ≤ k → k < a + n → list_any (λ s. s == k) (range_with_len a n) ≡ true
 range_holds a zero k le lt = absurd (omega arith)
 range_holds a (suc n) k le lt = or_when (a == k) (list_any (λ s. s == k) (range_with_len (a + 1) n)) (λ no. range_holds (a + 1) n k (omega (arith, eqb-false a k no)) (omega arith))
 
-range_lacks : (a n k : ℕ) → a + n ≤ k → list_any (λ s. s == k) (range_with_len a n) ≡ false
+pub range_lacks : (a n k : ℕ) → a + n ≤ k → list_any (λ s. s == k) (range_with_len a n) ≡ false
 range_lacks a zero k le = refl
 range_lacks a (suc n) k le = or_from (a == k) (list_any (λ s. s == k) (range_with_len (a + 1) n)) (ne_eqb a k (λ (e : a ≡ k). omega arith)) (range_lacks (a + 1) n k (omega arith))
 
-range_more : (a n k : ℕ) → k ≡ a + n → range_with_len a n ++ k ∷ [] ≡ range_with_len a (suc n)
+pub range_more : (a n k : ℕ) → k ≡ a + n → range_with_len a n ++ k ∷ [] ≡ range_with_len a (suc n)
 range_more a zero k e = ap (λ x. x ∷ []) (omega arith)
 range_more a (suc n) k e = ap (λ l. a ∷ l) (range_more (a + 1) n k (omega arith))
 

@@ -1,38 +1,51 @@
 -- An instruction is its operation and its operands, and the table names each operation once.
 use Rattle.std.proofs.Common.{◌≡◌, ℕ, Option, Some, None, true, refl, subst, nat_lt}
 use Rattle.std.proofs.Common.{◌==◌, ◌≤◌, ◌-◌, suc, sym, ap, ◌∙◌, arith, rules, Bool, false, cond, List, [], ◌∷◌}
-use Rattle.std.specs.Prelude.{slice_get}
+use Rattle.std.specs.Prelude.{slice_get, option_map}
 use Rattle.std.specs.List.{find}
 use Rattle.std.proofs.lemmas.Bool.{eqb-true, eqb-false}
 use Rattle.std.proofs.lemmas.Option.{same_Some}
 use Rattle.micro_isa.specs.declared.arithmetic.AluOp.TheVariants as op
-use Rattle.micro_isa.specs.declared.arithmetic.DivOp.TheVariants.{Quotient, Remainder}
+use Rattle.micro_isa.specs.declared.arithmetic.DivOp.TheVariants.{Quotient}
 use Rattle.micro_isa.specs.declared.arithmetic.Test.TheVariants as test
 use Rattle.micro_isa.specs.declared.instr.Instr.{Instr}
 use Rattle.micro_isa.specs.declared.instr.Instr.TheVariants as instr
 use Rattle.micro_isa.specs.declared.operation.Operation.{Operation}
-use Rattle.micro_isa.specs.declared.operation.Operation.TheVariants.{Li, Mov, Alu, Div, Ctx, Jmp, Branch, Load, Store, Yield, Recv, Send, Halt}
+use Rattle.micro_isa.specs.declared.operation.Operation.TheVariants.{Li, Alu, Div, Branch}
 use Rattle.micro_isa.specs.declared.operands.Extra.{Extra}
-use Rattle.micro_isa.specs.declared.operands.Extra.TheVariants.{Nothing, Number, Target, Receive}
-use Rattle.micro_isa.specs.declared.operands.Extra.TheVariants as extra
+use Rattle.micro_isa.specs.declared.operands.Extra.TheVariants.{Nothing, Number}
 use Rattle.micro_isa.specs.declared.operands.Operands.{Operands}
-use Rattle.micro_isa.specs.Operands.{operation_of, operands_of, instr_of, made, with}
+use Rattle.micro_isa.specs.Columns.{target_of, never_falls, next_of}
+use Rattle.micro_isa.specs.Operands.{operation_of, operands_of, instr_of, made, with, renamed, reword}
 use Rattle.micro_isa.specs.Table.{row_of, operations, named, coded}
+
+-- Each of these laws holds of every row of the table by computing: a row in front of the last makes the last one stand for
+-- every other instruction, so that a new instruction asks for none here.
 
 pub made_again : {R : Type 0} (i : Instr R) → instr_of (operation_of i) (operands_of i) ≡ Some i
 made_again (instr.Li to n) = refl
-made_again (instr.Mov to from) = refl
-made_again (instr.Alu op to a b) = refl
-made_again (instr.Div op to a b) = refl
-made_again (instr.Ctx to) = refl
-made_again (instr.Jmp target) = refl
-made_again (instr.Branch test a b target) = refl
-made_again (instr.Load to address) = refl
-made_again (instr.Store address from) = refl
-made_again instr.Yield = refl
-made_again (instr.Recv to channel) = refl
-made_again (instr.Send channel from) = refl
-made_again instr.Halt = refl
+made_again _ = refl
+
+-- an instruction over other registers: it is made, and is the same operation with its operands renamed
+pub record IsReworded {R S : Type 0} (f : R → S) (g : S) (t : ℕ → ℕ) (i : Instr R) : Type 0 where
+  pub made : instr_of (operation_of i) (renamed f g t (operands_of i)) ≡ Some (reword f g t i)
+  pub operation : operation_of (reword f g t i) ≡ operation_of i
+  pub operands : operands_of (reword f g t i) ≡ renamed f g t (operands_of i)
+
+pub reworded : {R S : Type 0} (f : R → S) (g : S) (t : ℕ → ℕ) (i : Instr R) → IsReworded f g t i
+reworded f g t (instr.Li to n) = record { made = refl; operation = refl; operands = refl }
+reworded f g t _ = record { made = refl; operation = refl; operands = refl }
+
+-- what never falls is followed by nothing, and what has a target jumps there
+
+pub no_fall : {R : Type 0} (i : Instr R) (at : ℕ) → never_falls i ≡ true → (next_of i at).fall ≡ None
+no_fall (instr.Jmp target) at h = refl
+no_fall instr.Halt at h = refl
+no_fall _ at h = absurd (cc)
+
+pub jumps_to : {R : Type 0} (i : Instr R) (at : ℕ) → (next_of i at).jump ≡ target_of i
+jumps_to (instr.Jmp target) at = refl
+jumps_to _ at = refl
 
 -- what names an operation names this one alone
 pub record Found (o : Operation) : Type 0 where
@@ -42,58 +55,44 @@ pub record Found (o : Operation) : Type 0 where
 
 pub found : (o : Operation) → Found o
 found Li = record { named = refl; coded = refl; small = refl }
-found Mov = record { named = refl; coded = refl; small = refl }
 found (Alu op.Add) = record { named = refl; coded = refl; small = refl }
-found (Alu op.Sub) = record { named = refl; coded = refl; small = refl }
-found (Alu op.Mul) = record { named = refl; coded = refl; small = refl }
-found (Alu op.And) = record { named = refl; coded = refl; small = refl }
-found (Alu op.Or) = record { named = refl; coded = refl; small = refl }
-found (Alu op.Xor) = record { named = refl; coded = refl; small = refl }
-found (Alu op.Shl) = record { named = refl; coded = refl; small = refl }
-found (Alu op.Shr) = record { named = refl; coded = refl; small = refl }
-found (Alu op.Ltu) = record { named = refl; coded = refl; small = refl }
-found (Alu op.Eq) = record { named = refl; coded = refl; small = refl }
 found (Div Quotient) = record { named = refl; coded = refl; small = refl }
-found (Div Remainder) = record { named = refl; coded = refl; small = refl }
-found Ctx = record { named = refl; coded = refl; small = refl }
-found Jmp = record { named = refl; coded = refl; small = refl }
 found (Branch test.Eq) = record { named = refl; coded = refl; small = refl }
-found (Branch test.Ne) = record { named = refl; coded = refl; small = refl }
-found (Branch test.Ltu) = record { named = refl; coded = refl; small = refl }
-found (Branch test.Geu) = record { named = refl; coded = refl; small = refl }
-found Load = record { named = refl; coded = refl; small = refl }
-found Store = record { named = refl; coded = refl; small = refl }
-found Yield = record { named = refl; coded = refl; small = refl }
-found Recv = record { named = refl; coded = refl; small = refl }
-found Send = record { named = refl; coded = refl; small = refl }
-found Halt = record { named = refl; coded = refl; small = refl }
+found _ = record { named = refl; coded = refl; small = refl }
 
 -- an instruction that was made has this operation and these operands
 pub record IsOf {R : Type 0} (o : Operation) (x : Operands R ℕ ℕ) (i : Instr R) : Type 0 where
   pub operation : operation_of i ≡ o
   pub operands : operands_of i ≡ x
 
-itself : {R : Type 0} (o : Operation) (x : Operands R ℕ ℕ) (j i : Instr R) → operation_of j ≡ o → operands_of j ≡ x → Some j ≡ Some i → IsOf o x i
-itself o x j i e f h = record {
-  operation = subst (λ (k : Instr _). operation_of k ≡ o) (same_Some j i h) e;
-  operands = subst (λ (k : Instr _). operands_of k ≡ x) (same_Some j i h) f;
-}
+-- the parts of what is made, if it is
+abbrev Parts : Type 0 → Type 0
+Parts R = Operation × Operands R ℕ ℕ
+
+abbrev parts_of : {R : Type 0} → Instr R → Parts R
+parts_of i = (operation_of i, operands_of i)
+
+abbrev these : {R : Type 0} → Operation → Operands R ℕ ℕ → Instr R → Parts R
+these o x i = (o, x)
+
+same_parts : {R : Type 0} (o : Operation) (to a b : Option R) (e : Extra ℕ ℕ) → option_map parts_of (made o to a b e) ≡ option_map (these o (with to a b e)) (made o to a b e)
+same_parts Li (Some to) None None (Number n) = refl
+same_parts _ None None None Nothing = refl
+same_parts _ None None (Some b) Nothing = refl
+same_parts _ None (Some a) None Nothing = refl
+same_parts _ None (Some a) (Some b) Nothing = refl
+same_parts _ (Some to) None None Nothing = refl
+same_parts _ (Some to) None (Some b) Nothing = refl
+same_parts _ (Some to) (Some a) None Nothing = refl
+same_parts _ (Some to) (Some a) (Some b) Nothing = refl
+same_parts _ _ _ _ _ = refl
 
 pub made_of : {R : Type 0} (o : Operation) (to a b : Option R) (e : Extra ℕ ℕ) (i : Instr R) → made o to a b e ≡ Some i → IsOf o (with to a b e) i
-made_of Li (Some to) None None (Number n) i h = itself _ _ (instr.Li to n) i refl refl h
-made_of Mov (Some to) (Some from) None Nothing i h = itself _ _ (instr.Mov to from) i refl refl h
-made_of (Alu op) (Some to) (Some a) (Some b) Nothing i h = itself _ _ (instr.Alu op to a b) i refl refl h
-made_of (Div op) (Some to) (Some a) (Some b) Nothing i h = itself _ _ (instr.Div op to a b) i refl refl h
-made_of Ctx (Some to) None None Nothing i h = itself _ _ (instr.Ctx to) i refl refl h
-made_of Jmp None None None (Target target) i h = itself _ _ (instr.Jmp target) i refl refl h
-made_of (Branch test) None (Some a) (Some b) (Target target) i h = itself _ _ (instr.Branch test a b target) i refl refl h
-made_of Load (Some to) (Some address) None Nothing i h = itself _ _ (instr.Load to address) i refl refl h
-made_of Store None (Some address) (Some from) Nothing i h = itself _ _ (instr.Store address from) i refl refl h
-made_of Yield None None None Nothing i h = itself _ _ instr.Yield i refl refl h
-made_of Recv (Some to) None None (Receive channel) i h = itself _ _ (instr.Recv to channel) i refl refl h
-made_of Send None (Some from) None (extra.Send channel) i h = itself _ _ (instr.Send channel from) i refl refl h
-made_of Halt None None None Nothing i h = itself _ _ instr.Halt i refl refl h
-made_of _ _ _ _ _ i h = absurd (cc)
+made_of o to a b e i h =
+    let x = with to a b e in
+    let same = subst (λ (m : Option (Instr _)). option_map parts_of m ≡ option_map (these o x) m) h (same_parts o to a b e) in
+    let parts = same_Some (parts_of i) (these o x i) same in
+    record { operation = ap (λ (p : Parts _). p.0) parts; operands = ap (λ (p : Parts _). p.1) parts }
 
 -- an opcode is that of the operation that it stands for
 pub coded_is : (n : ℕ) (o : Operation) → coded n ≡ Some o → (row_of o).opcode ≡ n

@@ -1,5 +1,5 @@
 pub mod Mapped
-mod Appearing
+pub mod Appearing
 mod Deciding
 pub mod Laws
 pub mod Words

@@ -9,7 +9,7 @@ use Rattle.micro_isa.specs.declared.instr.Instr.TheVariants as instr
 use Rattle.micro_isa.specs.declared.image.PReg.{PReg}
 use Rattle.micro_isa.specs.declared.image.Word.{Word}
 use Rattle.micro_isa.specs.declared.operation.Operation.{Operation}
-use Rattle.micro_isa.specs.declared.operation.Operation.TheVariants.{Li, Mov, Alu, Div, Ctx, Jmp, Branch, Load, Store, Yield, Recv, Send, Halt}
+use Rattle.micro_isa.specs.declared.operation.Operation.TheVariants.{Li}
 use Rattle.micro_isa.specs.declared.operands.Extra.{Extra}
 use Rattle.micro_isa.specs.declared.operands.Operands.{Operands}
 use Rattle.micro_isa.specs.declared.operands.Extra.TheVariants as extra
@@ -42,35 +42,14 @@ bytes_back_4 a b c d r ha hb hc hd =
 
 -- the fields of an instruction hold its operands
 fields_again : (i : Instr PReg) → wide_field (operands_of i).extra < wide_limit (operands_of i).extra → operands_from (fields_of (operands_of i)) (roles_of (operation_of i)) ≡ operands_of i
-fields_again (instr.Li to n) h = refl
-fields_again (instr.Mov to from) h = refl
-fields_again (instr.Alu op to a b) h = refl
-fields_again (instr.Div op to a b) h = refl
-fields_again (instr.Ctx to) h = refl
-fields_again (instr.Jmp target) h = refl
-fields_again (instr.Branch test a b target) h = refl
-fields_again (instr.Load to address) h = refl
-fields_again (instr.Store address from) h = refl
-fields_again instr.Yield h = refl
 fields_again (instr.Recv to channel) h = ap (λ (k : ℕ). with (Some to) None None (extra.Receive k)) (omega (arith, h))
 fields_again (instr.Send channel from) h = ap (λ (k : ℕ). with None (Some from) None (extra.Send k)) (omega (arith, h))
-fields_again instr.Halt h = refl
+fields_again _ h = refl
 
 -- the operands that fields hold have a wide field below its limit
 limited : (o : Operation) (f : Fields) → f.wide < 2 ^ 32 → wide_field (operands_from f (roles_of o)).extra < wide_limit (operands_from f (roles_of o)).extra
 limited Li f h = h
-limited Mov f h = omega arith
-limited (Alu op) f h = omega arith
-limited (Div op) f h = omega arith
-limited Ctx f h = omega arith
-limited Jmp f h = h
-limited (Branch test) f h = h
-limited Load f h = omega arith
-limited Store f h = omega arith
-limited Yield f h = omega arith
-limited Recv f h = omega arith
-limited Send f h = omega arith
-limited Halt f h = omega arith
+limited _ f h = omega (arith, h)
 
 same_self : (f : Fields) → same_fields f f ≡ true
 same_self f = and_from _ _ (eq-eqb f.d f.d refl) (and_from _ _ (eq-eqb f.a f.a refl) (and_from _ _ (eq-eqb f.b f.b refl) (eq-eqb f.wide f.wide refl)))

@@ -1,11 +1,25 @@
--- What the operations, tests and divisions of the instruction set give on words of 32 bits.
-use Rattle.std.specs.Prelude.{ℕ, zero, suc, ◌+◌, ◌-◌, ◌*◌, ◌/◌, ◌%◌, ◌^◌, ◌==◌, Bool, not, nat_lt, nat_le, bit_and, bit_or, bit_xor, Option, Some, None, if◌then◌else◌}
+-- What the operations on two words are called, and what operations, tests and divisions give on words of 32 bits.
+use Rattle.std.specs.Prelude.{ℕ, zero, suc, ◌+◌, ◌-◌, ◌*◌, ◌/◌, ◌%◌, ◌^◌, ◌==◌, Bool, not, nat_lt, nat_le, bit_and, bit_or, bit_xor, Option, Some, None, if◌then◌else◌, codes}
 use Rattle.micro_isa.specs.declared.arithmetic.AluOp.{AluOp}
 use Rattle.micro_isa.specs.declared.arithmetic.AluOp.TheVariants as op
 use Rattle.micro_isa.specs.declared.arithmetic.DivOp.{DivOp}
 use Rattle.micro_isa.specs.declared.arithmetic.DivOp.TheVariants.{Quotient, Remainder}
 use Rattle.micro_isa.specs.declared.arithmetic.Test.{Test}
 use Rattle.micro_isa.specs.declared.arithmetic.Test.TheVariants as test
+use Rattle.micro_isa.specs.Rows.{Row, called}
+
+-- the rows of the operations in the table of instructions
+abbrev pub alu_row : AluOp → Row
+alu_row op.Add = called 3 (codes "add")
+alu_row op.Sub = called 4 (codes "sub")
+alu_row op.Mul = called 5 (codes "mul")
+alu_row op.And = called 6 (codes "and")
+alu_row op.Or = called 7 (codes "or")
+alu_row op.Xor = called 8 (codes "xor")
+alu_row op.Shl = called 9 (codes "shl")
+alu_row op.Shr = called 10 (codes "shr")
+alu_row op.Ltu = called 11 (codes "ltu")
+alu_row op.Eq = called 12 (codes "eq")
 
 -- the word that an operation gives
 abbrev pub alu_of : AluOp → ℕ → ℕ → ℕ

@@ -1,16 +1,15 @@
 -- The columns of the instruction table, over registers of any kind.
-use Rattle.std.specs.Prelude.{ℕ, ◌+◌, Bool, true, false, List, [], Option, Some, None}
+use Rattle.std.specs.Prelude.{ℕ, ◌+◌, Bool, List, [], Option, Some, None}
 use Rattle.std.specs.List.{cons_option}
 use Rattle.micro_isa.specs.declared.instr.Instr.{Instr}
 use Rattle.micro_isa.specs.declared.instr.Instr.TheVariants as instr
 use Rattle.micro_isa.specs.declared.instr.Reads.{Reads}
 use Rattle.micro_isa.specs.declared.instr.Next.{Next}
-use Rattle.micro_isa.specs.declared.operation.Operation.{Operation}
-use Rattle.micro_isa.specs.declared.operation.Operation.TheVariants.{Jmp, Load, Store, Yield, Recv, Send, Halt}
 use Rattle.micro_isa.specs.declared.operands.Extra.{Extra}
 use Rattle.micro_isa.specs.declared.operands.Extra.TheVariants.{Target}
 use Rattle.micro_isa.specs.declared.operands.Operands.{Operands}
 use Rattle.micro_isa.specs.Operands.{operation_of, operands_of}
+pub use Rattle.micro_isa.specs.Table.{ends, switching}
 
 -- the registers read, in the order of the text
 abbrev pub reads_in : {R : Type 0} → Instr R → Reads R
@@ -35,22 +34,8 @@ target_in _ = None
 abbrev pub target_of : {R : Type 0} → Instr R → Option ℕ
 target_of i = target_in (operands_of i).extra
 
--- what stands after it is not reached in order
-abbrev pub ends : Operation → Bool
-ends Jmp = true
-ends Halt = true
-ends _ = false
-
 abbrev pub never_falls : {R : Type 0} → Instr R → Bool
 never_falls i = ends (operation_of i)
-
-abbrev pub switching : Operation → Bool
-switching Load = true
-switching Store = true
-switching Yield = true
-switching Recv = true
-switching Send = true
-switching _ = false
 
 -- whether another context may run after it
 abbrev pub switches_at : {R : Type 0} → Instr R → Bool

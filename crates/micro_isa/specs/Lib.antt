@@ -1,3 +1,4 @@
+pub mod Rows
 pub mod Arithmetic
 pub mod Columns
 pub mod Names

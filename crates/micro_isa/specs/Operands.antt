@@ -1,5 +1,5 @@
 -- An instruction as its operation and its operands, and back.
-use Rattle.std.specs.Prelude.{ℕ, Option, Some, None}
+use Rattle.std.specs.Prelude.{ℕ, Option, Some, None, option_map}
 use Rattle.micro_isa.specs.declared.instr.Instr.{Instr}
 use Rattle.micro_isa.specs.declared.instr.Instr.TheVariants as instr
 use Rattle.micro_isa.specs.declared.operation.Operation.{Operation}
@@ -62,3 +62,20 @@ made _ _ _ _ _ = None
 
 abbrev pub instr_of : {R : Type 0} → Operation → Operands R ℕ ℕ → Option (Instr R)
 instr_of operation x = made operation x.to x.a x.b x.extra
+
+-- ---- an instruction over other registers: from where it reads, where it writes and where it jumps
+
+abbrev pub retargeted : {K : Type 0} → (ℕ → ℕ) → Extra ℕ K → Extra ℕ K
+retargeted t (Target target) = Target (t target)
+retargeted t extra = extra
+
+abbrev pub renamed : {R S : Type 0} → (R → S) → S → (ℕ → ℕ) → Operands R ℕ ℕ → Operands S ℕ ℕ
+renamed f g t x = with (option_map (λ r. g) x.to) (option_map f x.a) (option_map f x.b) (retargeted t x.extra)
+
+-- of operands that stand where an instruction's stand there is an instruction
+abbrev pub or_halt : {R : Type 0} → Option (Instr R) → Instr R
+or_halt None = instr.Halt
+or_halt (Some i) = i
+
+abbrev pub reword : {R S : Type 0} → (R → S) → S → (ℕ → ℕ) → Instr R → Instr S
+reword f g t i = or_halt (instr_of (operation_of i) (renamed f g t (operands_of i)))

@@ -1,8 +1,7 @@
 -- The table of the instruction set.
-use Rattle.std.specs.Prelude.{ℕ, ◌==◌, List, [], ◌∷◌, Option, codes}
+use Rattle.std.specs.Prelude.{ℕ, ◌==◌, Bool, true, false, List, [], ◌∷◌, Option, codes}
 use Rattle.std.specs.List.{find}
 use Rattle.std.specs.Str.{bytes_eq}
-use Rattle.micro_isa.specs.declared.arithmetic.AluOp.TheVariants as op
 use Rattle.micro_isa.specs.declared.arithmetic.DivOp.TheVariants.{Quotient, Remainder}
 use Rattle.micro_isa.specs.declared.arithmetic.Test.TheVariants as test
 use Rattle.micro_isa.specs.declared.operation.Operation.{Operation}
@@ -11,28 +10,13 @@ use Rattle.micro_isa.specs.declared.operation.Role.{Role}
 use Rattle.micro_isa.specs.declared.operation.Role.TheVariants.{To, A, B, Number, Target, Receive}
 use Rattle.micro_isa.specs.declared.operation.Role.TheVariants as role
 use Rattle.micro_isa.specs.declared.operation.TheConstants.{OPERATIONS}
-
--- what an operation is called, in words and in text
-pub record Row : Type 0 where
-  pub opcode : ℕ
-  pub mnemonic : List ℕ
-
-abbrev pub called : ℕ → List ℕ → Row
-called opcode mnemonic = record { opcode = opcode; mnemonic = mnemonic }
+use Rattle.micro_isa.specs.Rows.{Row, called}
+use Rattle.micro_isa.specs.Arithmetic.{alu_row}
 
 abbrev pub row_of : Operation → Row
 row_of Li = called 1 (codes "li")
 row_of Mov = called 2 (codes "mov")
-row_of (Alu op.Add) = called 3 (codes "add")
-row_of (Alu op.Sub) = called 4 (codes "sub")
-row_of (Alu op.Mul) = called 5 (codes "mul")
-row_of (Alu op.And) = called 6 (codes "and")
-row_of (Alu op.Or) = called 7 (codes "or")
-row_of (Alu op.Xor) = called 8 (codes "xor")
-row_of (Alu op.Shl) = called 9 (codes "shl")
-row_of (Alu op.Shr) = called 10 (codes "shr")
-row_of (Alu op.Ltu) = called 11 (codes "ltu")
-row_of (Alu op.Eq) = called 12 (codes "eq")
+row_of (Alu op) = alu_row op
 row_of (Div Quotient) = called 13 (codes "div")
 row_of (Div Remainder) = called 14 (codes "rem")
 row_of Ctx = called 15 (codes "ctx")
@@ -63,6 +47,21 @@ roles_of Yield = []
 roles_of Recv = To ∷ Receive ∷ []
 roles_of Send = role.Send ∷ A ∷ []
 roles_of Halt = []
+
+-- what stands after it is not reached in order
+abbrev pub ends : Operation → Bool
+ends Jmp = true
+ends Halt = true
+ends _ = false
+
+-- another context may run after it
+abbrev pub switching : Operation → Bool
+switching Load = true
+switching Store = true
+switching Yield = true
+switching Recv = true
+switching Send = true
+switching _ = false
 
 abbrev pub operations : List Operation
 operations = OPERATIONS

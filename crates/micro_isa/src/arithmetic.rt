@@ -1,5 +1,7 @@
 ghost use Rattle.std.specs.Prelude.{◌≡◌, if◌then◌else◌};
-ghost use Rattle.micro_isa.specs.Arithmetic.{alu_of, test_of, quotient_of};
+ghost use Rattle.micro_isa.specs.Arithmetic.{alu_row, alu_of, test_of, quotient_of};
+
+use crate::operation::{Row, called};
 
 /// An operation on two words that cannot trap.
 #[derive(Clone, Copy, Debug, PartialEq, Eq)]
@@ -40,6 +42,25 @@ pub enum Test {
     Ltu,
     /// The first word is not below the second.
     Geu,
+}
+
+/// The row of an operation in the table of instructions.
+pub(crate) fn alu_row(op: AluOp) -> Row
+    ensures opcode { result.opcode ≡ (alu_row op).opcode }
+    ensures mnemonic { result.mnemonic.now ≡ (alu_row op).mnemonic }
+{
+    match op {
+        AluOp::Add => called(3, b"add"),
+        AluOp::Sub => called(4, b"sub"),
+        AluOp::Mul => called(5, b"mul"),
+        AluOp::And => called(6, b"and"),
+        AluOp::Or => called(7, b"or"),
+        AluOp::Xor => called(8, b"xor"),
+        AluOp::Shl => called(9, b"shl"),
+        AluOp::Shr => called(10, b"shr"),
+        AluOp::Ltu => called(11, b"ltu"),
+        AluOp::Eq => called(12, b"eq"),
+    }
 }
 
 /// What an operation gives on these words.

@@ -1,7 +1,7 @@
 ghost use Rattle.std.specs.Prelude.{◌≡◌, IfOk};
 
 use crate::instr::Instr;
-use crate::list::{List, NoMemory};
+use crate::list::{Copyable, List, NoMemory, copied};
 use crate::program::Setting;
 use std::alloc::Global;
 
@@ -31,10 +31,8 @@ pub struct Code {
     pub words: List<Word>,
 }
 
-impl Code {
-    pub fn copy(&self, alloc: Global) -> Result<Code, NoMemory>
-        ensures { IfOk result (λ copy. copy ≡ self.now) }
-    {
+impl Copyable for Code {
+    fn copy(&self, alloc: Global) -> Result<Code, NoMemory> {
         let words = self.words.copy(alloc)?;
         Ok(Code {
             private: self.private,
@@ -58,7 +56,7 @@ impl Image {
         ensures { IfOk result (λ copy. copy ≡ self.now) }
     {
         let setting = self.setting.copy(alloc)?;
-        let contexts = copied_contexts(alloc, self.contexts.as_slice())?;
+        let contexts = copied(alloc, self.contexts.as_slice())?;
         Ok(Image {
             file: self.file,
             setting,
@@ -66,17 +64,4 @@ impl Image {
             contexts,
         })
     }
-}
-
-fn copied_contexts(alloc: Global, contexts: &[Code]) -> Result<List<Code>, NoMemory>
-    ensures { IfOk result (λ copies. copies ≡ contexts.now) }
-{
-    let mut copies = List::new(alloc);
-    for code in contexts {
-        let code = code.copy(alloc)?;
-        if copies.push(code).is_err() {
-            return Err(NoMemory);
-        }
-    }
-    Ok(copies)
 }

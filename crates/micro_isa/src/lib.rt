@@ -32,7 +32,7 @@ pub use limits::{
     MOST_CONTEXTS, MOST_FILE, MOST_INITIAL_WORDS, MOST_INSTRUCTIONS, MOST_MEMORY, MOST_PORTS,
     MOST_REGISTERS, MOST_RING, MOST_STEPS, MOST_WORDS,
 };
-pub use list::{List, NoMemory};
+pub use list::{Copyable, List, NoMemory};
 pub use name::{Name, is_name};
 pub use numbers::{has_registers_below, has_target_below, never_falls};
 pub use operands::{Extra, Operands, instr_of, operands_of, operation_of};

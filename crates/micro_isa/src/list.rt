@@ -111,6 +111,26 @@ impl<T: Copy> List<T> {
     }
 }
 
+/// What can be copied where there is memory.
+pub trait Copyable: Drop {
+    fn copy(&self, alloc: Global) -> Result<Self, NoMemory>
+        ensures { IfOk result (λ copy. copy ≡ self.now) };
+}
+
+/// A list of copies of these items.
+pub(crate) fn copied<T: Copyable>(alloc: Global, items: &[T]) -> Result<List<T>, NoMemory>
+    ensures { IfOk result (λ copies. copies ≡ items.now) }
+{
+    let mut copies = List::new(alloc);
+    for item in items {
+        let item = item.copy(alloc)?;
+        if copies.push(item).is_err() {
+            return Err(NoMemory);
+        }
+    }
+    Ok(copies)
+}
+
 impl<T: PartialEq> PartialEq for List<T> {
     ghost eq = { λ x y. pointwise T.eq x y };
 

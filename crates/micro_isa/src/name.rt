@@ -5,7 +5,7 @@ ghost use Rattle.std.specs.Cmp.Lexicographic.{pointwise, nat_list_eq_equiv};
 ghost use Rattle.micro_isa.specs.Names.{IsName, name_test, is_head, is_tail};
 
 use crate::limits::LONGEST_NAME;
-use crate::list::NoMemory;
+use crate::list::{Copyable, NoMemory};
 use std::alloc::Global;
 use std::marker::Model;
 
@@ -39,20 +39,20 @@ impl Name {
         }
     }
 
-    pub fn copy(&self, alloc: Global) -> Result<Name, NoMemory>
-        ensures { IfOk result (λ copy. copy ≡ self.now) }
-    {
-        match Vec::from_slice(alloc, self.bytes.as_slice()) {
-            Ok(bytes) => Ok(Name { bytes }),
-            Err(_) => Err(NoMemory),
-        }
-    }
-
     pub fn bytes(&self) -> &[u8]
         ensures value { result.now ≡ self.now }
         ensures name { IsName self.now }
     {
         self.bytes.as_slice()
+    }
+}
+
+impl Copyable for Name {
+    fn copy(&self, alloc: Global) -> Result<Name, NoMemory> {
+        match Vec::from_slice(alloc, self.bytes.as_slice()) {
+            Ok(bytes) => Ok(Name { bytes }),
+            Err(_) => Err(NoMemory),
+        }
     }
 }
 
@@ -66,7 +66,7 @@ impl PartialEq for Name {
     }
 }
 
-/// Whether the bytes are a name: 1 to 32 of them, first a letter or `_`, then letters, digits, `_` or `.`.
+/// Whether the bytes are a name: 1 to `LONGEST_NAME` of them, first a letter or `_`, then letters, digits, `_` or `.`.
 pub fn is_name(bytes: &[u8]) -> bool
     ensures { result ≡ name_test bytes.now }
 {

@@ -1,10 +1,9 @@
 //! The table of the instruction set.
 
 ghost use Rattle.std.specs.Prelude.{◌≡◌, slice_get};
-ghost use Rattle.micro_isa.specs.Columns.{switching, ends};
-ghost use Rattle.micro_isa.specs.Table.{row_of, roles_of, named, coded};
+ghost use Rattle.micro_isa.specs.Table.{row_of, roles_of, ends, switching, named, coded};
 
-use crate::arithmetic::{AluOp, DivOp, Test};
+use crate::arithmetic::{AluOp, DivOp, Test, alu_row};
 
 /// What an instruction does, without its operands: what a mnemonic and an opcode stand for.
 #[derive(Clone, Copy, Debug, PartialEq, Eq)]
@@ -79,7 +78,7 @@ pub const OPERATIONS: [Operation; 26] = [
     Operation::Halt,
 ];
 
-fn called(opcode: u8, mnemonic: &'static [u8]) -> Row
+pub(crate) fn called(opcode: u8, mnemonic: &'static [u8]) -> Row
     ensures opcode { result.opcode ≡ opcode }
     ensures mnemonic { result.mnemonic.now ≡ mnemonic.now }
 {
@@ -94,16 +93,7 @@ pub fn row_of(operation: Operation) -> Row
     match operation {
         Operation::Li => called(1, b"li"),
         Operation::Mov => called(2, b"mov"),
-        Operation::Alu(AluOp::Add) => called(3, b"add"),
-        Operation::Alu(AluOp::Sub) => called(4, b"sub"),
-        Operation::Alu(AluOp::Mul) => called(5, b"mul"),
-        Operation::Alu(AluOp::And) => called(6, b"and"),
-        Operation::Alu(AluOp::Or) => called(7, b"or"),
-        Operation::Alu(AluOp::Xor) => called(8, b"xor"),
-        Operation::Alu(AluOp::Shl) => called(9, b"shl"),
-        Operation::Alu(AluOp::Shr) => called(10, b"shr"),
-        Operation::Alu(AluOp::Ltu) => called(11, b"ltu"),
-        Operation::Alu(AluOp::Eq) => called(12, b"eq"),
+        Operation::Alu(op) => alu_row(op),
         Operation::Div(DivOp::Quotient) => called(13, b"div"),
         Operation::Div(DivOp::Remainder) => called(14, b"rem"),
         Operation::Ctx => called(15, b"ctx"),

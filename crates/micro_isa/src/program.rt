@@ -1,7 +1,7 @@
 ghost use Rattle.std.specs.Prelude.{◌≡◌, IfOk};
 
 use crate::instr::Instr;
-use crate::list::{List, NoMemory};
+use crate::list::{Copyable, List, NoMemory, copied};
 use crate::name::Name;
 use std::alloc::Global;
 
@@ -23,10 +23,8 @@ pub struct Label {
     pub target: u32,
 }
 
-impl Label {
-    pub fn copy(&self, alloc: Global) -> Result<Label, NoMemory>
-        ensures { IfOk result (λ copy. copy ≡ self.now) }
-    {
+impl Copyable for Label {
+    fn copy(&self, alloc: Global) -> Result<Label, NoMemory> {
         let name = self.name.copy(alloc)?;
         Ok(Label {
             name,
@@ -44,13 +42,11 @@ pub struct Program {
     pub code: List<Line>,
 }
 
-impl Program {
-    pub fn copy(&self, alloc: Global) -> Result<Program, NoMemory>
-        ensures { IfOk result (λ copy. copy ≡ self.now) }
-    {
+impl Copyable for Program {
+    fn copy(&self, alloc: Global) -> Result<Program, NoMemory> {
         let name = self.name.copy(alloc)?;
-        let registers = copied_names(alloc, self.registers.as_slice())?;
-        let labels = copied_labels(alloc, self.labels.as_slice())?;
+        let registers = copied(alloc, self.registers.as_slice())?;
+        let labels = copied(alloc, self.labels.as_slice())?;
         let code = self.code.copy(alloc)?;
         Ok(Program {
             name,
@@ -59,32 +55,6 @@ impl Program {
             code,
         })
     }
-}
-
-fn copied_names(alloc: Global, names: &[Name]) -> Result<List<Name>, NoMemory>
-    ensures { IfOk result (λ copies. copies ≡ names.now) }
-{
-    let mut copies = List::new(alloc);
-    for name in names {
-        let name = name.copy(alloc)?;
-        if copies.push(name).is_err() {
-            return Err(NoMemory);
-        }
-    }
-    Ok(copies)
-}
-
-fn copied_labels(alloc: Global, labels: &[Label]) -> Result<List<Label>, NoMemory>
-    ensures { IfOk result (λ copies. copies ≡ labels.now) }
-{
-    let mut copies = List::new(alloc);
-    for label in labels {
-        let label = label.copy(alloc)?;
-        if copies.push(label).is_err() {
-            return Err(NoMemory);
-        }
-    }
-    Ok(copies)
 }
 
 /// The port behind an input channel, and how many fed words the channel holds at most.
@@ -112,10 +82,8 @@ pub enum Channel {
     },
 }
 
-impl Channel {
-    pub fn copy(&self, alloc: Global) -> Result<Channel, NoMemory>
-        ensures { IfOk result (λ copy. copy ≡ self.now) }
-    {
+impl Copyable for Channel {
+    fn copy(&self, alloc: Global) -> Result<Channel, NoMemory> {
         match self {
             Channel::Inner { capacity } => Ok(Channel::Inner {
                 capacity: *capacity,
@@ -140,13 +108,7 @@ impl Setting {
     pub fn copy(&self, alloc: Global) -> Result<Setting, NoMemory>
         ensures { IfOk result (λ copy. copy ≡ self.now) }
     {
-        let mut channels = List::new(alloc);
-        for channel in self.channels.as_slice() {
-            let channel = channel.copy(alloc)?;
-            if channels.push(channel).is_err() {
-                return Err(NoMemory);
-            }
-        }
+        let channels = copied(alloc, self.channels.as_slice())?;
         Ok(Setting {
             memory: self.memory,
             channels,
@@ -168,8 +130,8 @@ impl Bundle {
         ensures { IfOk result (λ copy. copy ≡ self.now) }
     {
         let setting = self.setting.copy(alloc)?;
-        let names = copied_names(alloc, self.names.as_slice())?;
-        let programs = copied_programs(alloc, self.programs.as_slice())?;
+        let names = copied(alloc, self.names.as_slice())?;
+        let programs = copied(alloc, self.programs.as_slice())?;
         Ok(Bundle {
             file: self.file,
             setting,
@@ -177,17 +139,4 @@ impl Bundle {
             programs,
         })
     }
-}
-
-fn copied_programs(alloc: Global, programs: &[Program]) -> Result<List<Program>, NoMemory>
-    ensures { IfOk result (λ copies. copies ≡ programs.now) }
-{
-    let mut copies = List::new(alloc);
-    for program in programs {
-        let program = program.copy(alloc)?;
-        if copies.push(program).is_err() {
-            return Err(NoMemory);
-        }
-    }
-    Ok(copies)
 }

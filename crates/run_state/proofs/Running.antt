@@ -4,7 +4,7 @@ use Rattle.std.specs.Prelude.{slice_get, ◌==◌, if◌then◌else◌}
 use Rattle.std.specs.Option.{is_some}
 use Rattle.std.proofs.lemmas.Bool.{eq-eqb, ne_eqb}
 use Rattle.micro_isa.specs.declared.instr.Instr.{Instr}
-use Rattle.micro_isa.specs.declared.instr.Instr.TheVariants.{Li, Mov, Alu, Div, Ctx, Jmp, Branch, Load, Store, Yield, Recv, Send, Halt}
+use Rattle.micro_isa.specs.declared.instr.Instr.TheVariants.{Li, Mov, Alu, Div, Ctx, Jmp, Branch}
 use Rattle.micro_isa.specs.Arithmetic.{quotient_of, test_of}
 use Rattle.semantics.specs.declared.Change.{Change}
 use Rattle.semantics.specs.declared.Change.TheVariants.{Nothing, Register}
@@ -23,7 +23,8 @@ divided_stays : {R : Type 0} (holds : R → Bool) (size at line : ℕ) (q : Opti
 divided_stays holds size at line None to here h = record { change = tt; next = omega arith; pending = tt }
 divided_stays holds size at line (Some v) to here h = record { change = h; next = omega arith; pending = tt }
 
--- what an instruction that can run does stays within its code and the registers that may be written
+-- what an instruction that can run does stays within its code and the registers that may be written; the last row is that
+-- of an instruction that ends the stretch
 pub effect_stays : {R : Type 0} (holds : R → Bool) (size : ℕ) (c line : ℕ) (i : Instr R) (read : R → ℕ) (memory : List ℕ) (k : SavedContext R) → k.at < size → CanRunOne holds size i → StaysWithin holds size (effect_of c line i read memory k)
 effect_stays holds size c line (Li to n) read memory k here can = record { change = can.written; next = omega arith; pending = tt }
 effect_stays holds size c line (Mov to from) read memory k here can = record { change = can.written; next = omega arith; pending = tt }
@@ -32,12 +33,7 @@ effect_stays holds size c line (Div op to a b) read memory k here can = divided_
 effect_stays holds size c line (Ctx to) read memory k here can = record { change = can.written; next = omega arith; pending = tt }
 effect_stays holds size c line (Jmp target) read memory k here can = let there : target < size = can.target in record { change = tt; next = omega arith; pending = tt }
 effect_stays holds size c line (Branch test a b target) read memory k here can = record { change = tt; next = next_within size k.at (test_of test (read a) (read b)) target here can.target; pending = tt }
-effect_stays holds size c line (Load to address) read memory k here can = record { change = tt; next = omega arith; pending = can.written }
-effect_stays holds size c line (Store address from) read memory k here can = record { change = tt; next = omega arith; pending = tt }
-effect_stays holds size c line Yield read memory k here can = record { change = tt; next = omega arith; pending = tt }
-effect_stays holds size c line (Recv to channel) read memory k here can = record { change = tt; next = omega arith; pending = can.written }
-effect_stays holds size c line (Send channel from) read memory k here can = record { change = tt; next = omega arith; pending = tt }
-effect_stays holds size c line Halt read memory k here can = record { change = tt; next = omega arith; pending = tt }
+effect_stays holds size c line _ read memory k here can = record { change = tt; next = omega arith; pending = can.written }
 
 module _ {L R V : Type 0} (kind : Kind L R V) where
   -- a change of the values is a change of the context that runs on them
