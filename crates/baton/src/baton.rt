@@ -71,6 +71,7 @@ impl<T: Storied> Baton<T> {
         ensures of { IsOfBaton T.origin self.now.table.shared pass.new.seat }
         ensures looked { pass.new.seat.me ≡ (looked_view pass.old.seat.me.0 result, pass.old.seat.me.1) }
         ensures longer { length pass.old.seat.me.0.seen ≤ result }
+        ensures idle { IsIdle pass.old.seat → IsIdle pass.new.seat }
     {
         self.table.shared.load::<Look<T>>(&mut pass.seat, 1)
     }
@@ -82,6 +83,7 @@ impl<T: Storied> Baton<T> {
         ensures there { IsOk result }
         ensures note { IfOk result (λ n. IsOfBaton T.origin self.now.table.shared n.seat × (n.seat.me.0.seen ≡ pass.old.seat.me.0.seen)) }
         ensures same { pass.new.seat.me ≡ pass.old.seat.me }
+        ensures idle { IsIdle pass.old.seat → IsIdle pass.new.seat }
     {
         let seat = self.table.shared.split_seat::<Noting>(&mut pass.seat);
         Ok(Note { seat })
@@ -94,6 +96,7 @@ impl<T: Storied> Baton<T> {
         ensures before { IsPrefix pass.old.seat.me.0.seen pass.new.seat.me.0.seen }
         ensures theirs { IsPrefix note.seat.me.0.seen pass.new.seat.me.0.seen }
         ensures same { Learnt pass.old.seat.me.0 pass.new.seat.me.0 × (pass.new.seat.me.1 ≡ pass.old.seat.me.1) }
+        ensures idle { IsIdle pass.old.seat → IsIdle pass.new.seat }
     {
         let Note { seat } = note;
         self.join(pass, seat);
