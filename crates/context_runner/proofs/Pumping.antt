@@ -36,7 +36,7 @@ from_pump w b k (Some polled.Closed ∷ rs) le asked = (le, here w k _ rs asked,
 from_pump w b k (Some polled.Failed ∷ rs) le asked = (le, here w k _ rs asked, from_pump w (k + 1) (k + 1) rs (omega arith) (behind w k _ rs asked))
 
 -- all entries of a pump
-all_from_pump : (w : WorldState) (rs : List (Option Polled)) → ((j : ℕ) → is_some (answer_at rs j) ≡ can_feed w j) → FromPump w 0 (entries_from 0 rs)
+pub all_from_pump : (w : WorldState) (rs : List (Option Polled)) → ((j : ℕ) → is_some (answer_at rs j) ≡ can_feed w j) → FromPump w 0 (entries_from 0 rs)
 all_from_pump w rs asked = from_pump w 0 0 rs (omega arith) (λ j. let e : j ≡ 0 + j = omega arith in asked j ∙ ap (can_feed w) e)
 
 -- a pump that left nothing is counted

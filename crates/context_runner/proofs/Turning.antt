@@ -30,12 +30,7 @@ use Rattle.run_journal.specs.Histories.{RunState, channels_of}
 use Rattle.run_journal.specs.Keeping.{port_at}
 use Rattle.run_journal.specs.Turns.{ready_answer, open_answer, turn_answer, TurnDid, TurnLowers, to_come}
 use Rattle.context_runner.specs.Moving.{Moved}
-use Rattle.context_runner.specs.Sharing.{OwnOf}
-
--- an unplugging of a channel, if any
-abbrev lost_at : Option ℕ → List Entry
-lost_at None = []
-lost_at (Some k) = entry.Unplugged k ∷ []
+use Rattle.context_runner.specs.Sharing.{lost_at, OwnOf}
 
 -- what a turn lost, if anything, by its segment
 record Lost (s : Segment) (lost : List Entry) : Type 0 where
@@ -116,9 +111,5 @@ turn_last answer r r' s s' c goes can is did =
     ∙ lost_last c o.channel
 
 -- the entries of a turn are that of its segment and of the port that it lost, if any
-own_by : (e : Entry) (lost : List Entry) (o : Option ℕ) → lost ≡ lost_at o → OwnOf (turn.Ran e) (e ∷ lost)
-own_by e lost None is = inl (ap (λ l. e ∷ l) is)
-own_by e lost (Some k) is = inr (k, ap (λ l. e ∷ l) is)
-
-pub own_of : (r r' : RunState) (s s' : SlotsState) (c : ℕ) (e : Entry) → (did : Advanced r.engine r'.engine r.entries r'.entries s s' c e) → OwnOf (turn.Ran e) (e ∷ did.lost)
-own_of r r' s s' c e did = let o = lost_is r r' s s' c e did in own_by e did.lost o.channel o.entries
+pub own_of : (r r' : RunState) (s s' : SlotsState) (c : ℕ) (e : Entry) → (did : Advanced r.engine r'.engine r.entries r'.entries s s' c e) → OwnOf (fire (machine_semantics r.engine.image) (config_of r.engine) (Run c)).1 (turn.Ran e) (e ∷ did.lost)
+own_of r r' s s' c e did = let o = lost_is r r' s s' c e did in (o.channel, subst (λ x. LostBy x o.channel) (sym (ap (λ p. p.1) did.ran)) o.by, ap (λ l. e ∷ l) o.entries)

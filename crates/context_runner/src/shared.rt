@@ -109,6 +109,7 @@ impl<P: Port> Shared<P> {
         ensures of { IsOfBaton beginning self.now.baton.table.shared pass.new.seat }
         ensures looked { pass.new.seat.me ≡ (looked_view pass.old.seat.me.0 result, pass.old.seat.me.1) }
         ensures longer { length pass.old.seat.me.0.seen ≤ result }
+        ensures idle { IsIdle pass.old.seat → IsIdle pass.new.seat }
     {
         self.baton.length(pass)
     }
@@ -120,6 +121,7 @@ impl<P: Port> Shared<P> {
         ensures there { IsOk result }
         ensures note { IfOk result (λ n. IsOfBaton beginning self.now.baton.table.shared n.seat × (n.seat.me.0.seen ≡ pass.old.seat.me.0.seen)) }
         ensures same { pass.new.seat.me ≡ pass.old.seat.me }
+        ensures idle { IsIdle pass.old.seat → IsIdle pass.new.seat }
     {
         self.baton.note(pass)
     }
@@ -131,6 +133,7 @@ impl<P: Port> Shared<P> {
         ensures before { IsPrefix pass.old.seat.me.0.seen pass.new.seat.me.0.seen }
         ensures theirs { IsPrefix note.seat.me.0.seen pass.new.seat.me.0.seen }
         ensures same { Learnt pass.old.seat.me.0 pass.new.seat.me.0 × (pass.new.seat.me.1 ≡ pass.old.seat.me.1) }
+        ensures idle { IsIdle pass.old.seat → IsIdle pass.new.seat }
     {
         self.baton.learn(pass, note);
     }
