@@ -1,5 +1,5 @@
 -- Facts of one program more.
-use Rattle.std.proofs.Common.{◌≡◌, ℕ, ◌+◌, List, [], ◌∷◌, ◌++◌, map, length, ap, add-one, get_or, take, ◌<◌}
+use Rattle.std.proofs.Common.{◌≡◌, ℕ, ◌+◌, List, [], ◌∷◌, ◌++◌, map, length, add-one, get_or, take, ◌<◌}
 use Rattle.std.specs.List.{All, AllZip}
 use Rattle.std.proofs.lemmas.List.Elements.{All-map}
 use Rattle.std.proofs.Math.Seq.{take-suc}
@@ -11,12 +11,7 @@ use Rattle.flow_graph.specs.Paths.{IsClosedCode}
 use Rattle.flow_graph.proofs.Forming.{closed_code}
 use Rattle.pressure.specs.Pressures.{IsPart}
 use Rattle.report_check.specs.declared.facts.Facts.{Facts}
-use Rattle.report_check.specs.Text.{in_order}
 use Rattle.report_check.specs.Facts.{AreFactsOf, AreAllFacts}
-
--- one list more
-pub next_list : (list : ℕ → List ℕ) (n : ℕ) → in_order (n + 1) list ≡ in_order n list ++ list n
-next_list list n = ap (λ m. in_order m list) (add-one n)
 
 push_zip : {A B : Type 0} (R : A → B → Type 0) (xs : List A) (ys : List B) (x : A) (y : B) → AllZip R xs ys → R x y → AllZip R (xs ++ x ∷ []) (ys ++ y ∷ [])
 push_zip R [] [] x y h r = (r, tt)

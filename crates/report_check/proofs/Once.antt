@@ -11,7 +11,7 @@ use Rattle.micro_isa.specs.declared.program.Bundle.{Bundle}
 use Rattle.liveness.specs.Pressures.{IsPrivatePressure, IsTotalPressure}
 use Rattle.pressure.specs.Regions.{IsNumbered}
 use Rattle.report_check.specs.declared.facts.Facts.{Facts}
-use Rattle.report_check.specs.Text.{in_order}
+use Rattle.micro_kit.specs.Text.{in_order}
 use Rattle.report_check.specs.Facts.{HasRegions, AreReached, lost_line, lost_lines, AreUnreachable, AreFactsOf, AreAllFacts}
 use Rattle.report_check.specs.Checks.{check_text, HasOneCheck}
 

@@ -4,7 +4,7 @@ use Rattle.std.specs.List.{flat_map}
 use Rattle.micro_isa.specs.declared.program.Bundle.{Bundle}
 use Rattle.pressure.specs.Pressures.{need_of}
 use Rattle.report_check.specs.declared.facts.Facts.{Facts}
-use Rattle.report_check.specs.Text.{newline, in_order}
+use Rattle.micro_kit.specs.Text.{newline, in_order}
 use Rattle.report_check.specs.Facts.{AreAllFacts}
 
 -- `context C private P all R regions G`

@@ -7,7 +7,7 @@ use Rattle.flow_graph.specs.Paths.{Reaches}
 use Rattle.pressure.specs.Regions.{IsNumbered}
 use Rattle.pressure.specs.Pressures.{IsPressureOf}
 use Rattle.report_check.specs.declared.facts.Facts.{Facts}
-use Rattle.report_check.specs.Text.{in_order}
+use Rattle.micro_kit.specs.Text.{in_order}
 
 -- the code has so many regions
 abbrev pub HasRegions : List Line → ℕ → Type 0

@@ -57,7 +57,7 @@ fn facts_of(alloc: Global, program: &Program) -> Result<Facts, NoMemory>
 }
 
 /// The lines of the instructions that no path reaches.
-#[tactic(auto, using(crate::proofs::Gathering::next_list))]
+#[tactic(auto, using(micro_kit::proofs::InOrder::next_list))]
 fn unreachable_lines(alloc: Global, code: &[Line], flow: &Flow) -> Result<List<u32>, NoMemory>
     requires few { length code.now ≤ MOST_INSTRUCTIONS }
     requires flow { IsFlowOf code.now flow.now }

@@ -1,18 +1,18 @@
 //! The text, line by line. After a refusal a part of a line may stand in it.
 
-ghost use Rattle.std.specs.Prelude.{◌≡◌, ◌++◌, ◌<◌, ◌≤◌, length, map, decimal, slice_get, OnOk, IfOk};
+ghost use Rattle.std.specs.Prelude.{◌≡◌, ◌++◌, ◌<◌, ◌≤◌, length, map, slice_get, OnOk, IfOk};
 ghost use Rattle.std.specs.List.{All, flat_map};
 ghost use Rattle.std.specs.Option.{option_copied};
 ghost use Rattle.micro_isa.specs.declared.limits.TheConstants.{MOST_CONTEXTS};
 ghost use Rattle.micro_isa.specs.Formed.{IsFormedBundle};
 ghost use Rattle.pressure.specs.Pressures.{IsPart, need_of};
-ghost use Rattle.report_check.specs.Text.{in_order};
+ghost use Rattle.micro_kit.specs.Text.{in_order};
 ghost use Rattle.report_check.specs.Facts.{AreAllFacts};
 ghost use Rattle.report_check.specs.Checks.{pressure_line, unreachable_line, context_lines, need_line, check_text, IsCheckOf, HasOneCheck};
 
 use crate::facts::{Facts, all_facts, pressures_in};
 use micro_isa::{Bundle, List, NoMemory};
-use micro_kit::put_number;
+use micro_kit::{put_bytes, put_named};
 use pressure::need;
 use std::alloc::Global;
 
@@ -51,7 +51,7 @@ fn need_of_all(alloc: Global, all: &[Facts]) -> Result<u32, NoMemory>
     Ok(need(parts.as_slice()))
 }
 
-#[tactic(auto, using(crate::proofs::Gathering::next_list))]
+#[tactic(auto, using(micro_kit::proofs::InOrder::next_list))]
 fn put_contexts(text: &mut Vec<u8>, all: &List<Facts>) -> Result<(), NoMemory>
     requires few { length all.now ≤ MOST_CONTEXTS }
     ensures { OnOk result (text.new.items ≡ text.old.items ++ in_order (length all.now) (λ c. context_lines c (slice_get all.now c))) }
@@ -106,18 +106,4 @@ fn put_need(text: &mut Vec<u8>, need: u32, file: u32) -> Result<(), NoMemory>
     put_named(text, b"need ", need)?;
     put_named(text, b" file ", file)?;
     put_bytes(text, b"\n")
-}
-
-/// A word and a number.
-fn put_named(text: &mut Vec<u8>, word: &[u8], n: u32) -> Result<(), NoMemory>
-    ensures { OnOk result (text.new.items ≡ text.old.items ++ (word.now ++ decimal n)) }
-{
-    put_bytes(text, word)?;
-    put_number(text, n)
-}
-
-fn put_bytes(text: &mut Vec<u8>, bytes: &[u8]) -> Result<(), NoMemory>
-    ensures { OnOk result (text.new.items ≡ text.old.items ++ bytes.now) }
-{
-    text.extend_from_slice(bytes).map_err(|_| NoMemory)
 }

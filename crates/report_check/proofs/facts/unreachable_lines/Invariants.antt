@@ -1,6 +1,6 @@
 use Rattle.std.proofs.Common.{◌≡◌, false}
 use Rattle.std.specs.Prelude.{slice_get, slice_index_or}
-use Rattle.report_check.specs.Text.{in_order}
+use Rattle.micro_kit.specs.Text.{in_order}
 use Rattle.report_check.specs.Facts.{lost_line}
 use Rattle.report_check.proofs.facts.unreachable_lines.Given as goal
 

@@ -1,6 +1,6 @@
 use Rattle.std.proofs.Common.{◌≡◌, ◌++◌}
 use Rattle.std.specs.Prelude.{slice_get}
-use Rattle.report_check.specs.Text.{in_order}
+use Rattle.micro_kit.specs.Text.{in_order}
 use Rattle.report_check.specs.Checks.{context_lines}
 use Rattle.report_check.proofs.text.put_contexts.Given as goal
 
