@@ -1,5 +1,6 @@
 -- The line of a journal's entry.
-use Rattle.std.specs.Prelude.{◌≡◌, ℕ, ◌<◌, ◌^◌, List, [], ◌∷◌, ◌++◌, decimal, codes}
+use Rattle.std.specs.Prelude.{◌≡◌, ℕ, ◌<◌, ◌^◌, List, ◌++◌, decimal, codes}
+use Rattle.micro_kit.specs.Text.{newline}
 use Rattle.world.specs.declared.event.Trap.{Trap}
 use Rattle.world.specs.declared.event.Trap.TheVariants.{Divide, Address}
 use Rattle.world.specs.declared.event.SegmentEnd.{SegmentEnd}
@@ -35,7 +36,7 @@ entry_words (Unplugged k) = codes "unplug " ++ decimal k
 
 -- the words and a newline
 abbrev pub entry_line : Entry → List ℕ
-entry_line e = entry_words e ++ 10 ∷ []
+entry_line e = entry_words e ++ newline
 
 -- the line of no entry
 abbrev pub IsNoEntry : List ℕ → Type 0

@@ -1,12 +1,12 @@
 //! Entries as text.
 
-ghost use Rattle.std.specs.Prelude.{◌≡◌, ◌++◌, List, decimal, OnOk};
+ghost use Rattle.std.specs.Prelude.{◌≡◌, ◌++◌, List, OnOk};
 ghost use Rattle.std.specs.List.{flat_map, AllByRecursion};
 ghost use Rattle.journal_text.specs.Entries.{trap_word, end_word, entry_words, entry_line, IsFitting};
 ghost use Rattle.world.specs.declared.event.Entry.TheVariants.{Ran, Fed};
 
 use micro_isa::NoMemory;
-use micro_kit::put_number;
+use micro_kit::{put_bytes, put_named};
 use world::{Entry, SegmentEnd, Trap};
 
 /// The word of a trap, in entries and in what a report tells of a context.
@@ -74,17 +74,4 @@ fn put_fed(text: &mut Vec<u8>, channel: u8, word: u32) -> Result<(), NoMemory>
 {
     put_named(text, b"feed ", channel as u32)?;
     put_named(text, b" ", word)
-}
-
-fn put_named(text: &mut Vec<u8>, word: &[u8], n: u32) -> Result<(), NoMemory>
-    ensures { OnOk result (text.new.items ≡ text.old.items ++ (word.now ++ decimal n)) }
-{
-    put_bytes(text, word)?;
-    put_number(text, n)
-}
-
-fn put_bytes(text: &mut Vec<u8>, bytes: &[u8]) -> Result<(), NoMemory>
-    ensures { OnOk result (text.new.items ≡ text.old.items ++ bytes.now) }
-{
-    text.extend_from_slice(bytes).map_err(|_| NoMemory)
 }
