@@ -2,11 +2,11 @@
 use Rattle.std.proofs.Common.{◌≡◌, ◌||◌, ◌≤◌, ◌<◌, ◌∙◌, ℕ, Bool, true, false, not, List, [], ◌∷◌, Option, Some, None, length, map, refl, sym, ap, subst, arith, fold, nat_lt}
 use Rattle.std.specs.Prelude.{slice_get}
 use Rattle.std.specs.List.{list_any, cons_option}
-use Rattle.std.specs.Option.{option_map}
+use Rattle.std.specs.Option.{option_map, is_some}
 use Rattle.std.proofs.lemmas.Bool.{true≢false, lt-ltb, and_from}
 use Rattle.micro_isa.specs.declared.instr.Instr.{Instr}
 use Rattle.micro_isa.specs.declared.operation.Operation.{Operation}
-use Rattle.micro_isa.specs.declared.operation.Operation.TheVariants.{Li, Mov, Alu, Div, Ctx, Jmp, Branch, Load, Store, Yield, Recv, Send, Halt}
+use Rattle.micro_isa.specs.declared.operation.Operation.TheVariants.{Li}
 use Rattle.micro_isa.specs.declared.operands.Extra.{Extra}
 use Rattle.micro_isa.specs.declared.operands.Extra.TheVariants as extra
 use Rattle.micro_isa.specs.declared.operands.Operands.{Operands}
@@ -31,37 +31,33 @@ use Rattle.asm_context.proofs.Labelling.{labelled_at, target_below}
 use Rattle.asm_context.proofs.Ordering.{IsOrderly}
 
 -- a line with a word for each role has an instruction, whatever its words name
-abbrev pub IsMade : Form → Type 0
-IsMade (Instruction o x) =
-    (register : List ℕ → VReg) (number target channel : List ℕ → ℕ) → (i : Instr VReg) × (instr_of o (each register number target channel x) ≡ Some i)
-IsMade _ = Unit {0}
 
+abbrev pub has_instr : (register : List ℕ → VReg) → (number target channel : List ℕ → ℕ) → Form → Bool
+has_instr register number target channel (Instruction o x) = is_some (instr_of o (each register number target channel x))
+has_instr register number target channel _ = true
+
+abbrev pub IsMade : Form → Type 0
+IsMade form = (register : List ℕ → VReg) (number target channel : List ℕ → ℕ) → has_instr register number target channel form ≡ true
+
+-- by computing, of any operation with none, one, two, three or more words
 made_counted : (o : Operation) (ws : Words) → IsMade (counted_form o (operands_in (roles_of o) ws))
-made_counted Li (to ∷ n ∷ []) = λ r m t k. (_, refl)
-made_counted Mov (to ∷ a ∷ []) = λ r m t k. (_, refl)
-made_counted (Alu op) (to ∷ a ∷ b ∷ []) = λ r m t k. (_, refl)
-made_counted (Div op) (to ∷ a ∷ b ∷ []) = λ r m t k. (_, refl)
-made_counted Ctx (to ∷ []) = λ r m t k. (_, refl)
-made_counted Jmp (label ∷ []) = λ r m t k. (_, refl)
-made_counted (Branch test) (a ∷ b ∷ label ∷ []) = λ r m t k. (_, refl)
-made_counted Load (to ∷ a ∷ []) = λ r m t k. (_, refl)
-made_counted Store (a ∷ b ∷ []) = λ r m t k. (_, refl)
-made_counted Yield [] = λ r m t k. (_, refl)
-made_counted Recv (to ∷ channel ∷ []) = λ r m t k. (_, refl)
-made_counted Send (channel ∷ a ∷ []) = λ r m t k. (_, refl)
-made_counted Halt [] = λ r m t k. (_, refl)
-made_counted _ _ = tt
+made_counted Li [] = λ r m t k. refl
+made_counted _ [] = λ r m t k. refl
+made_counted _ (u ∷ []) = λ r m t k. refl
+made_counted _ (u ∷ v ∷ []) = λ r m t k. refl
+made_counted _ (u ∷ v ∷ w ∷ []) = λ r m t k. refl
+made_counted _ _ = λ r m t k. refl
 
 made_named : (o : Option Operation) (ws : Words) → IsMade (named_form o ws)
-made_named None ws = tt
+made_named None ws = λ r m t k. refl
 made_named (Some o) ws = made_counted o ws
 
 made_form : (ws : Words) → IsMade (form_of ws)
-made_form [] = tt
+made_form [] = λ r m t k. refl
 made_form (word ∷ ws) = made_named (named word) ws
 
 pub made_body : (ws : Words) → IsMade (body_of ws).form
-made_body [] = tt
+made_body [] = λ r m t k. refl
 made_body (word ∷ ws) = go (label_in word)
   where
     go : (label : Option (List ℕ)) → IsMade (labelled label word ws).form
@@ -94,6 +90,10 @@ FormFact chs all now form (Some i) =
     × (fits_channels chs.kinds i ≡ true)
     × (map (λ r. r.0) (formed.registers_in i) ≡ map (λ w. place_of now.registers w) (registers_in form))
     × (never_falls i ≡ ends form)
+
+is_there : (o : Option (Instr VReg)) → is_some o ≡ true → (i : Instr VReg) × (o ≡ Some i)
+is_there None e = absurd (true≢false (sym e))
+is_there (Some i) e = (i, refl)
 
 known_part : (a : Bool) → (not a || false) ≡ false → a ≡ true
 known_part true e = refl
@@ -158,7 +158,7 @@ module _ (chs : Channels) (all now : Said) (ordered : IsOrderly all all) where
 pub form_fact : (chs : Channels) (all now : Said) (form : Form) → IsMade form → IsClean chs all form → IsOrderly all all → AreKnown now.registers (registers_in form) → length now.registers ≤ length all.registers → FormFact chs all now form (instr_in now.registers chs.names all form)
 form_fact chs all now Blank m c o k le = (refl, refl)
 form_fact chs all now (Instruction op x) m c o k le =
-    let made = m (register now.registers) number_or (target all) (place_of chs.names) in
+    let made = is_there (instr_of op y) (m (register now.registers) number_or (target all) (place_of chs.names)) in
     subst (FormFact chs all now (Instruction op x)) (sym made.1) (fact made.0 made.1)
   where
     y : Operands VReg ℕ ℕ

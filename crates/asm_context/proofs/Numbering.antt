@@ -1,10 +1,11 @@
 -- Registers are numbered by their first appearance.
-use Rattle.std.proofs.Common.{◌≡◌, ◌||◌, ◌++◌, ◌≤◌, ◌<◌, ℕ, zero, suc, ◌+◌, ◌==◌, Bool, true, false, not, List, [], ◌∷◌, length, map, refl, sym, ap, ◌∙◌, arith, cond, fold, if◌then◌else◌}
-use Rattle.std.proofs.lemmas.Bool.{true≢false, lt-ltb, eqb-false, ne_eqb, or_parts, or_from}
+use Rattle.std.proofs.Common.{◌≡◌, ◌||◌, ◌++◌, ℕ, suc, ◌+◌, ◌==◌, Bool, true, false, not, List, [], ◌∷◌, length, map, refl, sym, ap, ◌∙◌, arith, cond, fold, if◌then◌else◌}
+use Rattle.std.proofs.lemmas.Bool.{true≢false, lt-ltb, or_parts}
 use Rattle.std.proofs.lemmas.List.{length-append}
 use Rattle.std.specs.List.{list_any, position_or_len, range_with_len}
 use Rattle.std.specs.Str.{bytes_eq}
 use Rattle.micro_isa.specs.Formed.{firsts_after}
+use Rattle.micro_isa.proofs.Appearing.{range_holds, range_lacks, range_more}
 use Rattle.asm_lines.specs.Cutting.{Words}
 use Rattle.asm_lines.specs.Tables.{knows, place_of, declare}
 use Rattle.asm_lines.proofs.Known.{place_below, same_word, knows_more, knows_it}
@@ -12,22 +13,6 @@ use Rattle.asm_lines.proofs.Known.{place_below, same_word, knows_more, knows_it}
 -- the numbers of as many names
 abbrev pub numbers : Words → List ℕ
 numbers names = range_with_len 0 (length names)
-
-or_when : (a b : Bool) → (a ≡ false → b ≡ true) → (a || b) ≡ true
-or_when true b h = refl
-or_when false b h = h refl
-
-range_holds : (a n k : ℕ) → a ≤ k → k < a + n → list_any (λ s. s == k) (range_with_len a n) ≡ true
-range_holds a zero k le lt = absurd (omega arith)
-range_holds a (suc n) k le lt = or_when (a == k) (list_any (λ s. s == k) (range_with_len (a + 1) n)) (λ no. range_holds (a + 1) n k (omega (arith, eqb-false a k no)) (omega arith))
-
-range_lacks : (a n k : ℕ) → a + n ≤ k → list_any (λ s. s == k) (range_with_len a n) ≡ false
-range_lacks a zero k le = refl
-range_lacks a (suc n) k le = or_from (a == k) (list_any (λ s. s == k) (range_with_len (a + 1) n)) (ne_eqb a k (λ (e : a ≡ k). omega arith)) (range_lacks (a + 1) n k (omega arith))
-
-range_more : (a n k : ℕ) → k ≡ a + n → range_with_len a n ++ k ∷ [] ≡ range_with_len a (suc n)
-range_more a zero k e = ap (λ x. x ∷ []) (omega arith)
-range_more a (suc n) k e = ap (λ l. a ∷ l) (range_more (a + 1) n k (omega arith))
 
 pub firsts-append : (seen xs ys : List ℕ) → firsts_after seen (xs ++ ys) ≡ firsts_after (firsts_after seen xs) ys
 firsts-append seen [] ys = refl
