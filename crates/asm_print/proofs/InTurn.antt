@@ -1,6 +1,6 @@
 -- Registers that are numbered by their first appearance, and their names as a text declares them.
-use Rattle.std.proofs.Common.{◌≡◌, ◌++◌, ◌<◌, ◌≤◌, ◌==◌, ◌||◌, ℕ, ◌+◌, zero, suc, Bool, true, false, List, [], ◌∷◌, refl, sym, ap, ◌∙◌, arith, length, map, fold, take, drop, get_or, if◌then◌else◌, nat_lt, subst, add-one}
-use Rattle.std.proofs.lemmas.Bool.{and_parts, eqb-true, eqb-false, eq-eqb, ne_eqb, ltb-true, ltb-false, or_from}
+use Rattle.std.proofs.Common.{◌≡◌, ◌++◌, ◌<◌, ◌≤◌, ◌==◌, ℕ, ◌+◌, suc, Bool, true, false, List, [], ◌∷◌, refl, sym, ap, ◌∙◌, arith, length, map, fold, take, drop, get_or, if◌then◌else◌, nat_lt, subst, add-one}
+use Rattle.std.proofs.lemmas.Bool.{and_parts, eqb-true, eqb-false, eq-eqb, ne_eqb, ltb-true, ltb-false}
 use Rattle.std.proofs.lemmas.List.{take-append-drop, length-append, length-take, get_or-take}
 use Rattle.std.proofs.lemmas.List.FromFn.{length-range_with_len, get_or-range_with_len}
 use Rattle.std.proofs.lemmas.Option.{unwrap_or-slice_get}
@@ -9,6 +9,7 @@ use Rattle.std.proofs.Math.ListN.{get_or-append}
 use Rattle.std.specs.List.{list_any, range_with_len}
 use Rattle.std.specs.Str.{bytes_eq}
 use Rattle.micro_isa.specs.Formed.{firsts_after, all_below, is_distinct}
+use Rattle.micro_isa.proofs.Appearing.{range_holds, range_lacks, range_more}
 use Rattle.asm_lines.specs.Cutting.{Words}
 use Rattle.asm_lines.specs.Tables.{knows, place_of, declare}
 use Rattle.asm_print.specs.Canonical.{name_at}
@@ -86,22 +87,6 @@ known_all k [] t = tt
 known_all k (r ∷ rs) t = (omega (arith, next_past k r t.0, grown_above (next k r) rs), known_all (next k r) rs t.1)
 
 -- ---- numbers that are the first appearances in order
-
-range_holds : (a n k : ℕ) → a ≤ k → k < a + n → list_any (λ s. s == k) (range_with_len a n) ≡ true
-range_holds a zero k le lt = absurd (omega arith)
-range_holds a (suc n) k le lt = go (λ l. range_holds (a + 1) n k l (omega arith)) (a == k) refl
-  where
-    go : (a + 1 ≤ k → list_any (λ s. s == k) (range_with_len (a + 1) n) ≡ true) → (b : Bool) → (a == k) ≡ b → ((a == k) || list_any (λ s. s == k) (range_with_len (a + 1) n)) ≡ true
-    go ih true e = ap (λ b. b || list_any (λ s. s == k) (range_with_len (a + 1) n)) e
-    go ih false e = ap (λ b. b || list_any (λ s. s == k) (range_with_len (a + 1) n)) e ∙ ih (omega (arith, eqb-false a k e))
-
-range_lacks : (a n k : ℕ) → a + n ≤ k → list_any (λ s. s == k) (range_with_len a n) ≡ false
-range_lacks a zero k le = refl
-range_lacks a (suc n) k le = or_from (a == k) (list_any (λ s. s == k) (range_with_len (a + 1) n)) (ne_eqb a k (λ (e : a ≡ k). omega arith)) (range_lacks (a + 1) n k (omega arith))
-
-range_more : (a n k : ℕ) → k ≡ a + n → range_with_len a n ++ k ∷ [] ≡ range_with_len a (suc n)
-range_more a zero k e = ap (λ x. x ∷ []) (omega arith)
-range_more a (suc n) k e = ap (λ l. a ∷ l) (range_more (a + 1) n k (omega arith))
 
 firsts_on : (seen : List ℕ) (x : ℕ) (xs : List ℕ) (b : Bool) → list_any (λ s. s == x) seen ≡ b → firsts_after seen (x ∷ xs) ≡ firsts_after (if b then seen else seen ++ x ∷ []) xs
 firsts_on seen x xs b e = ap (λ (b : Bool). firsts_after (if b then seen else seen ++ x ∷ []) xs) e

@@ -67,18 +67,7 @@ pub record Written (chs : Words) (p : Program) (i : Instr VReg) : Type 0 where
 
 pub written : (chs : Words) (p : Program) (i : Instr VReg) → Written chs p i
 written chs p (instr.Li to n) = record { there = refl; again = refl }
-written chs p (instr.Mov to from) = record { there = refl; again = refl }
-written chs p (instr.Alu op to a b) = record { there = refl; again = refl }
-written chs p (instr.Div op to a b) = record { there = refl; again = refl }
-written chs p (instr.Ctx to) = record { there = refl; again = refl }
-written chs p (instr.Jmp target) = record { there = refl; again = refl }
-written chs p (instr.Branch test a b target) = record { there = refl; again = refl }
-written chs p (instr.Load to address) = record { there = refl; again = refl }
-written chs p (instr.Store address from) = record { there = refl; again = refl }
-written chs p instr.Yield = record { there = refl; again = refl }
-written chs p (instr.Recv to channel) = record { there = refl; again = refl }
-written chs p (instr.Send channel from) = record { there = refl; again = refl }
-written chs p instr.Halt = record { there = refl; again = refl }
+written chs p _ = record { there = refl; again = refl }
 
 pub body_again : (chs : Words) (p : Program) (i : Instr VReg) → body_of (row_words (instruction_row chs p i)) ≡ body_for chs p i
 body_again chs p i =
