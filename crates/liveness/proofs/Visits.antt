@@ -16,7 +16,7 @@ use Rattle.flow_graph.specs.Paths.{Edge, IsClosedCode, HasSmallRegisters, IsSmal
 use Rattle.liveness.specs.Liveness.{Reads, LiveIn, LiveAlong, LiveOut}
 use Rattle.liveness.specs.Sets.{IsSetOf}
 use Rattle.liveness.specs.Lives.{IsLiveOf}
-use Rattle.liveness.specs.Sweeps.{AreOutSets, in_of, out_of, IsOutSet, IsSound, IsClosed, IsClosedAt, IsLive}
+use Rattle.liveness.specs.Sweeps.{AreOutSets, in_of, out_of, IsOutSet, IsSound, IsClosed, IsClosedAt, HasGrown, IsLive}
 use Rattle.liveness.proofs.Masks.{out_from, out_there, in_from, in_read, in_kept}
 
 -- a register that a visit adds has a path
@@ -157,15 +157,24 @@ outs_live code sets i out live is_out closed inside =
 pub small_at : (code : List Line) → IsClosedCode code → (i : ℕ) (d : Line) → i < length code → HasSmallRegisters (get_or code i d)
 small_at code closed i d inside = closed.registers i _ (slice_get-get_or code i d inside)
 
-pub step_kept : (before now : List ℕ) (told : Bool) → (told ≡ true → sum before < sum now) → (told ≡ false → now ≡ before) → sum before ≤ sum now
+step_kept : (before now : List ℕ) (told : Bool) → (told ≡ true → sum before < sum now) → (told ≡ false → now ≡ before) → sum before ≤ sum now
 step_kept before now true grown same = let more = grown refl in omega arith
 step_kept before now false grown same = rw (same refl) (omega arith)
 
 -- either nothing changed in a sweep and a visit, or a set grew in one of them
-pub step_grown : (was told : Bool) (first before now : ℕ) → (was ≡ true → first < before) → first ≤ before → (told ≡ true → before < now)
-    → before ≤ now → (was || told) ≡ true → first < now
-step_grown true told first before now was_grown le told_grown more e = let l = was_grown refl in omega arith
-step_grown false told first before now was_grown le told_grown more e = let l = told_grown e in omega arith
+pub step_grown : (first before now : List ℕ) (was told : Bool) → (told ≡ true → sum before < sum now) → (told ≡ false → now ≡ before)
+    → HasGrown first before was → HasGrown first now (was || told)
+step_grown first before now was told grown same so_far = record {
+  kept = let le = kept in let before = so_far.kept in omega arith;
+  more = go was refl;
+}
+  where
+    kept : sum before ≤ sum now
+    kept = step_kept before now told grown same
+
+    go : (b : Bool) → was ≡ b → (b || told) ≡ true → sum first < sum now
+    go true is e = let more = so_far.more is in let le = kept in omega arith
+    go false is e = let more = grown e in let le = so_far.kept in omega arith
 
 pub step_still : (code : List Line) (before now : List ℕ) (i : ℕ) (was told : Bool)
     → (was ≡ false → (j : ℕ) → suc i ≤ j → j < length code → IsClosedAt code before j)

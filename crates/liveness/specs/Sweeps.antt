@@ -1,10 +1,13 @@
 -- One visit of a sweep over the sets of all instructions.
-use Rattle.std.specs.Prelude.{ℕ, ◌≡◌, ◌*◌, ◌%◌, ◌^◌, ◌<◌, List, Option, Some, None, length, slice_get, slice_index, bit_and, bit_or}
+use Rattle.std.specs.Prelude.{ℕ, ◌≡◌, ◌*◌, ◌%◌, ◌^◌, ◌<◌, ◌≤◌, Bool, true, sum, List, Option, Some, None, length, slice_get, slice_index, bit_and, bit_or}
 use Rattle.std.specs.Int.{bit_at, bit_not, w128}
 use Rattle.micro_isa.specs.declared.instr.Next.{Next}
 use Rattle.micro_isa.specs.declared.program.Line.{Line}
 use Rattle.micro_isa.specs.declared.program.VReg.{VReg}
 use Rattle.micro_isa.specs.Columns.{reads_in, written_by, next_of}
+use Rattle.flow_graph.specs.declared.flow.Flow.{Flow}
+use Rattle.flow_graph.specs.Paths.{IsClosedCode}
+use Rattle.flow_graph.specs.Flows.{IsFlowOf}
 use Rattle.liveness.specs.Liveness.{LiveIn}
 use Rattle.liveness.specs.Sets.{IsSetOf}
 
@@ -48,6 +51,18 @@ pub record IsClosed (code : List Line) (sets : List ℕ) : Type 0 where
 -- each register of a set is live in
 pub record IsSound (code : List Line) (sets : List ℕ) : Type 0 where
   pub path : (i k : ℕ) → k < 128 → bit_at (slice_index sets i) k ≡ 1 → LiveIn code i k
+
+-- sweeps go on from here: over closed code with its flow, one set an instruction, each register of it live in
+pub record IsSweep (code : List Line) (flow : Flow) (sets : List ℕ) : Type 0 where
+  pub closed : IsClosedCode code
+  pub is_flow : IsFlowOf code flow
+  pub one_each : length sets ≡ length code
+  pub sound : IsSound code sets
+
+-- no set is smaller than at first, and one is greater if that is told
+pub record HasGrown (first sets : List ℕ) (told : Bool) : Type 0 where
+  pub kept : sum first ≤ sum sets
+  pub more : told ≡ true → sum first < sum sets
 
 -- the sets are those of the registers that are live in
 pub record IsLive (code : List Line) (sets : List ℕ) : Type 0 where

@@ -2,7 +2,7 @@ ghost use Rattle.std.specs.Prelude.{◌≡◌, ℕ, ◌<◌, ◌≤◌, length, 
 ghost use Rattle.flow_graph.specs.Paths.{Below, IsClosedCode, IsSmall, HasSmallRegisters};
 ghost use Rattle.flow_graph.specs.Flows.{IsFlowOf};
 ghost use Rattle.micro_isa.specs.Columns.{next_of};
-ghost use Rattle.liveness.specs.Sweeps.{mask as mask_of, at_next, out_of, in_of, IsClosedAt, IsClosed, IsSound, IsLive, IsOutSet};
+ghost use Rattle.liveness.specs.Sweeps.{mask as mask_of, at_next, out_of, in_of, IsClosedAt, IsClosed, IsSweep, HasGrown, IsLive, IsOutSet};
 
 use flow_graph::Flow;
 use micro_isa::{Line, Next, VReg, reads_of, writes};
@@ -10,10 +10,7 @@ use micro_isa::{Line, Next, VReg, reads_of, writes};
 /// Makes the sets grow until they are those of the registers that are live in. Any order will do;
 /// one in which successors come first needs few rounds.
 pub fn settle(code: &[Line], flow: &Flow, order: &[u32], sets: &mut [u128])
-    requires closed { IsClosedCode code.now }
-    requires flow { IsFlowOf code.now flow.now }
-    requires one_each { length sets.old ≡ length code.now }
-    requires sound { IsSound code.now sets.old }
+    requires { IsSweep code.now flow.now sets.old }
     ensures { IsLive code.now sets.new }
 {
     improve(code, flow, order, sets);
@@ -24,12 +21,8 @@ pub fn settle(code: &[Line], flow: &Flow, order: &[u32], sets: &mut [u128])
 
 /// Visits in this order, again and again, until no set grows.
 fn improve(code: &[Line], flow: &Flow, order: &[u32], sets: &mut [u128])
-    requires closed { IsClosedCode code.now }
-    requires flow { IsFlowOf code.now flow.now }
-    requires one_each { length sets.old ≡ length code.now }
-    requires sound { IsSound code.now sets.old }
-    ensures one_each { length sets.new ≡ length code.now }
-    ensures sound { IsSound code.now sets.new }
+    requires { IsSweep code.now flow.now sets.old }
+    ensures sweep { IsSweep code.now flow.now sets.new }
     ensures kept { sum sets.old ≤ sum sets.new }
 {
     'passes: while pass(code, flow, order, sets) {}
@@ -37,14 +30,9 @@ fn improve(code: &[Line], flow: &Flow, order: &[u32], sets: &mut [u128])
 
 /// Visits the instructions of the list. Whether a set grew.
 fn pass(code: &[Line], flow: &Flow, order: &[u32], sets: &mut [u128]) -> bool
-    requires closed { IsClosedCode code.now }
-    requires flow { IsFlowOf code.now flow.now }
-    requires one_each { length sets.old ≡ length code.now }
-    requires sound { IsSound code.now sets.old }
-    ensures one_each { length sets.new ≡ length code.now }
-    ensures sound { IsSound code.now sets.new }
-    ensures kept { sum sets.old ≤ sum sets.new }
-    ensures grown { result ≡ true → sum sets.old < sum sets.new }
+    requires { IsSweep code.now flow.now sets.old }
+    ensures sweep { IsSweep code.now flow.now sets.new }
+    ensures grown { HasGrown sets.old sets.new result }
 {
     let mut grew = false;
     'places: for k in 0..order.len() {
@@ -55,12 +43,8 @@ fn pass(code: &[Line], flow: &Flow, order: &[u32], sets: &mut [u128]) -> bool
 
 /// Visits instruction `i`, if there is one. Whether its set grew.
 fn visit_if_there(code: &[Line], flow: &Flow, i: usize, sets: &mut [u128]) -> bool
-    requires closed { IsClosedCode code.now }
-    requires flow { IsFlowOf code.now flow.now }
-    requires one_each { length sets.old ≡ length code.now }
-    requires sound { IsSound code.now sets.old }
-    ensures one_each { length sets.new ≡ length code.now }
-    ensures sound { IsSound code.now sets.new }
+    requires { IsSweep code.now flow.now sets.old }
+    ensures sweep { IsSweep code.now flow.now sets.new }
     ensures grown { result ≡ true → sum sets.old < sum sets.new }
     ensures still { result ≡ false → sets.new ≡ sets.old }
 {
@@ -69,13 +53,9 @@ fn visit_if_there(code: &[Line], flow: &Flow, i: usize, sets: &mut [u128]) -> bo
 
 /// Visits each instruction once, the last one first. Whether a set grew.
 fn sweep(code: &[Line], flow: &Flow, sets: &mut [u128]) -> bool
-    requires closed { IsClosedCode code.now }
-    requires flow { IsFlowOf code.now flow.now }
-    requires one_each { length sets.old ≡ length code.now }
-    requires sound { IsSound code.now sets.old }
-    ensures one_each { length sets.new ≡ length code.now }
-    ensures sound { IsSound code.now sets.new }
-    ensures grown { result ≡ true → sum sets.old < sum sets.new }
+    requires { IsSweep code.now flow.now sets.old }
+    ensures sweep { IsSweep code.now flow.now sets.new }
+    ensures grown { HasGrown sets.old sets.new result }
     ensures settled { result ≡ false → IsClosed code.now sets.new }
 {
     let mut grew = false;
@@ -89,13 +69,9 @@ fn sweep(code: &[Line], flow: &Flow, sets: &mut [u128]) -> bool
 
 /// Adds what instruction `i` reads, and what is live at its successors. Whether its set grew.
 fn visit(code: &[Line], flow: &Flow, i: usize, sets: &mut [u128]) -> bool
-    requires closed { IsClosedCode code.now }
-    requires flow { IsFlowOf code.now flow.now }
+    requires sweep { IsSweep code.now flow.now sets.old }
     requires here { i < length code.now }
-    requires one_each { length sets.old ≡ length code.now }
-    requires sound { IsSound code.now sets.old }
-    ensures one_each { length sets.new ≡ length code.now }
-    ensures sound { IsSound code.now sets.new }
+    ensures sweep { IsSweep code.now flow.now sets.new }
     ensures grown { result ≡ true → sum sets.old < sum sets.new }
     ensures still { result ≡ false → sets.new ≡ sets.old }
     ensures closed { result ≡ false → IsClosedAt code.now sets.new i }

@@ -5,5 +5,7 @@ use Rattle.liveness.proofs.sweep.improve.Goals as goal
 pub passes-smaller : goal.passes-smaller
 passes-smaller c =
     let bound = sum_bound c.pass.new.sets c.type_inv.sets in
-    let grown = c.pass.ensures.grown c.passes-test.true in
+    let more = c.pass.ensures.grown.more c.passes-test.true in
+    let as_many = c.pass.ensures.sweep.one_each in
+    let before = c.passes.invariant.sweep.one_each in
     omega arith

@@ -1,11 +1,10 @@
-use Rattle.std.proofs.Common.{◌≡◌, ◌-◌, ◌*◌, ◌^◌, ◌≤◌, length, sum}
-use Rattle.liveness.specs.Sweeps.{IsSound}
+use Rattle.std.proofs.Common.{◌-◌, ◌*◌, ◌^◌, ◌≤◌, length, sum}
+use Rattle.liveness.specs.Sweeps.{IsSweep}
 use Rattle.liveness.proofs.sweep.improve.Given as goal
 
 abbrev pub invariant-passes : goal.invariant-passes
 invariant-passes l = record {
-  one_each : length l.sets ≡ length l.code;
-  sound : IsSound l.code l.sets;
+  sweep : IsSweep l.code l.flow l.sets;
   kept : sum l.initial.sets ≤ sum l.sets;
 }
 

@@ -1,12 +1,9 @@
-use Rattle.std.proofs.Common.{◌≡◌, ◌-◌, ◌*◌, ◌^◌, length, sum}
-use Rattle.liveness.specs.Sweeps.{IsSound}
+use Rattle.std.proofs.Common.{◌-◌, ◌*◌, ◌^◌, length, sum}
+use Rattle.liveness.specs.Sweeps.{IsSweep}
 use Rattle.liveness.proofs.sweep.settle.Given as goal
 
 abbrev pub invariant-rounds : goal.invariant-rounds
-invariant-rounds l = record {
-  one_each : length l.sets ≡ length l.code;
-  sound : IsSound l.code l.sets;
-}
+invariant-rounds l = IsSweep l.code l.flow l.sets
 
 -- sets only grow, so their sum does
 abbrev pub decreases-rounds : goal.decreases-rounds
