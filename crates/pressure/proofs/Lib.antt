@@ -1,5 +1,6 @@
 pub mod Greatest
-pub mod Spreading
+pub mod Ways
+pub mod Ringing
+pub mod Flooding
 pub mod Numbering
-pub mod Merging
 pub mod Switching

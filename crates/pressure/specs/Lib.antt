@@ -1,4 +1,5 @@
 pub mod Boundaries
 pub mod Regions
-pub mod Labels
+pub mod Rings
+pub mod Floods
 pub mod Pressures

@@ -3,11 +3,11 @@
 #![tactic(auto)]
 
 mod boundary;
+mod flood;
 mod joint_need;
-mod label;
-mod merge;
 mod pressure_of;
 mod region;
+mod ring;
 mod size;
 
 pub use boundary::boundaries;

@@ -1,11 +1,12 @@
-ghost use Rattle.std.specs.Prelude.{◌≡◌, ◌==◌, ◌+◌, ◌<◌, ◌≤◌, cond, length, slice_index, IfOk};
-ghost use Rattle.micro_isa.specs.declared.limits.TheConstants.{MOST_INSTRUCTIONS};
+ghost use Rattle.std.specs.Prelude.{◌≡◌, ℕ, ◌+◌, ◌<◌, ◌≤◌, Some, length, slice_index, IfOk, true, false};
 ghost use Rattle.flow_graph.specs.Paths.{IsClosedCode};
 ghost use Rattle.flow_graph.specs.Flows.{IsFlowOf};
 ghost use Rattle.pressure.specs.Regions.{numbers_in, count_in, AreRegionsOf};
-ghost use Rattle.pressure.specs.Labels.{IsLabelled};
+ghost use Rattle.pressure.specs.Rings.{AreRingsOf, IsNobody};
+ghost use Rattle.pressure.specs.Floods.{AreNumbered, ArePlain};
 
-use crate::label::least_labels;
+use crate::flood::flood;
+use crate::ring::{Rings, nobody};
 use flow_graph::Flow;
 use micro_isa::{Line, List, NoMemory, Program};
 use std::alloc::Global;
@@ -26,8 +27,10 @@ impl Regions {
         ensures { IfOk result (λ regions. AreRegionsOf program.now.code regions) }
     {
         let code = program.code.as_slice();
-        let labels = least_labels(alloc, code, flow)?;
-        numbered(alloc, code, labels.as_slice())
+        let falls = Rings::of(alloc, code, flow, false)?;
+        let jumps = Rings::of(alloc, code, flow, true)?;
+        let mut numbers = nobody(alloc, code.len())?;
+        numbered(alloc, code, &falls, &jumps, &mut numbers)
     }
 
     /// The number of the region of instruction `i`.
@@ -46,37 +49,90 @@ impl Regions {
     }
 }
 
-/// Numbers the labels in order.
-fn numbered(alloc: Global, code: &[Line], labels: &[u32]) -> Result<Regions, NoMemory>
-    requires labelled { IsLabelled code.now labels.now }
-    requires few { length code.now ≤ MOST_INSTRUCTIONS }
+/// The regions, numbered one after the other.
+fn numbered(
+    alloc: Global,
+    code: &[Line],
+    falls: &Rings,
+    jumps: &Rings,
+    numbers: &mut [Option<u32>],
+) -> Result<Regions, NoMemory>
+    requires closed { IsClosedCode code.now }
+    requires falls { AreRingsOf code.now false falls.now }
+    requires jumps { AreRingsOf code.now true jumps.now }
+    requires nobody { IsNobody (length code.now) numbers.old }
     ensures { IfOk result (λ regions. AreRegionsOf code.now regions) }
 {
-    let mut numbers: List<u32> = List::new(alloc);
-    let mut count = 0u32;
-    'labels: for i in 0..labels.len() {
-        let label = labels[i] as usize;
-        let number = number_at(numbers.as_slice(), label, i, count);
-        let Ok(()) = numbers.push(number) else {
-            return Err(NoMemory);
-        };
-        count = one_more_if(count, label == i);
-    }
+    let count = number_all(alloc, code, falls, jumps, numbers)?;
+    let numbers = plain(alloc, numbers)?;
     Ok(Regions { numbers, count })
 }
 
-/// The number of instruction `i`: that of its label, or a new one where it is its own label.
-fn number_at(numbers: &[u32], label: usize, i: usize, count: u32) -> u32
-    requires within { label ≤ i }
-    requires so_far { length numbers.now ≡ i }
-    ensures { result ≡ cond (label == i) count (slice_index numbers.now label) }
+/// Numbers the regions, by a flood from the least instruction of each. How many there are.
+fn number_all(
+    alloc: Global,
+    code: &[Line],
+    falls: &Rings,
+    jumps: &Rings,
+    numbers: &mut [Option<u32>],
+) -> Result<u32, NoMemory>
+    requires closed { IsClosedCode code.now }
+    requires falls { AreRingsOf code.now false falls.now }
+    requires jumps { AreRingsOf code.now true jumps.now }
+    requires nobody { IsNobody (length code.now) numbers.old }
+    ensures { IfOk result (λ count. AreNumbered code.now (length code.now) count numbers.new) }
 {
-    if label == i { count } else { numbers[label] }
+    let mut count = 0;
+    'places: for i in 0..code.len() {
+        count = number_from(alloc, code, falls, jumps, numbers, i as u32, count)?;
+    }
+    Ok(count)
 }
 
-fn one_more_if(count: u32, new: bool) -> u32
-    requires { count < 4294967295 }
-    ensures { result ≡ count + cond new 1 0 }
+/// Numbers the region of instruction `i`, if it has no number yet. How many are numbered then.
+fn number_from(
+    alloc: Global,
+    code: &[Line],
+    falls: &Rings,
+    jumps: &Rings,
+    numbers: &mut [Option<u32>],
+    i: u32,
+    count: u32,
+) -> Result<u32, NoMemory>
+    requires closed { IsClosedCode code.now }
+    requires falls { AreRingsOf code.now false falls.now }
+    requires jumps { AreRingsOf code.now true jumps.now }
+    requires here { i < length code.now }
+    requires few { count ≤ i }
+    requires numbered { AreNumbered code.now i count numbers.old }
+    ensures numbered { IfOk result (λ more. AreNumbered code.now (i + 1) more numbers.new) }
+    ensures few { IfOk result (λ more. more ≤ i + 1) }
 {
-    if new { count + 1 } else { count }
+    if numbers[i as usize].is_some() {
+        return Ok(count);
+    }
+    flood(alloc, falls, jumps, numbers, i, count)?;
+    Ok(count + 1)
+}
+
+/// The numbers, where each instruction has one.
+fn plain(alloc: Global, numbers: &[Option<u32>]) -> Result<List<u32>, NoMemory>
+    ensures { IfOk result (λ plain. ArePlain numbers.now plain) }
+{
+    let mut list = List::new(alloc);
+    'places: for i in 0..numbers.len() {
+        let Ok(()) = list.push(or_none(numbers[i])) else {
+            return Err(NoMemory);
+        };
+    }
+    Ok(list)
+}
+
+fn or_none(number: Option<u32>) -> u32
+    ensures { (a : ℕ) → number ≡ Some a → result ≡ a }
+{
+    match number {
+        Some(number) => number,
+        None => 0,
+    }
 }
