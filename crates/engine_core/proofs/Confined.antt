@@ -2,7 +2,7 @@
 use Rattle.std.proofs.Common.{◌≡◌, ℕ, zero, suc, ◌+◌, List, [], ◌∷◌, Option, Some, None, Bool, true, false, refl, ap, ◌∙◌, drop}
 use Rattle.std.specs.Prelude.{slice_get, slice_set, option_map, ◌==◌, if◌then◌else◌}
 use Rattle.micro_isa.specs.declared.instr.Instr.{Instr}
-use Rattle.micro_isa.specs.declared.instr.Instr.TheVariants.{Li, Mov, Alu, Div, Ctx, Jmp, Branch, Load, Store, Yield, Recv, Send, Halt}
+use Rattle.micro_isa.specs.declared.instr.Instr.TheVariants.{Li, Mov, Alu, Div, Ctx, Jmp, Branch}
 use Rattle.micro_isa.specs.declared.image.PReg.{PReg}
 use Rattle.micro_isa.specs.declared.image.Word.{Word}
 use Rattle.micro_isa.specs.Arithmetic.{quotient_of}
@@ -75,12 +75,7 @@ effect_passes may c line (Div op to a b) read memory k passed =
 effect_passes may c line (Ctx to) read memory k passed = record { change = passed; stopped = tt }
 effect_passes may c line (Jmp target) read memory k passed = record { change = tt; stopped = tt }
 effect_passes may c line (Branch test a b target) read memory k passed = record { change = tt; stopped = tt }
-effect_passes may c line (Load to address) read memory k passed = record { change = tt; stopped = passed }
-effect_passes may c line (Store address from) read memory k passed = record { change = tt; stopped = refl }
-effect_passes may c line Yield read memory k passed = record { change = tt; stopped = refl }
-effect_passes may c line (Recv to channel) read memory k passed = record { change = tt; stopped = passed }
-effect_passes may c line (Send channel from) read memory k passed = record { change = tt; stopped = refl }
-effect_passes may c line Halt read memory k passed = record { change = tt; stopped = refl }
+effect_passes may c line _ read memory k passed = record { change = tt; stopped = passed }
 
 module _ (may : ℕ → Bool) (before : List ℕ) (c : ℕ) (memory : List ℕ) where
   abbrev Goes : Ran → Type 0
