@@ -10,6 +10,7 @@ use micro_isa::{Instr, alu, divide, test_holds};
 use semantics::{Change, Effect, SegmentExit};
 
 /// What this instruction does on these registers and this memory, as the one at `at` of a context.
+#[inline(always)]
 pub(crate) fn effect<R: Copy, V: Registers<R>>(
     context: u32,
     line: u32,

@@ -48,6 +48,7 @@ fn line_at<L: Copy>(code: &[L], at: u32) -> Option<L>
 }
 
 /// What a line at `at` of so many does.
+#[inline(always)]
 fn line_effect<R: Copy, L: CodeLine<R>, V: Registers<R>>(
     context: u32,
     line: L,
@@ -66,8 +67,38 @@ fn line_effect<R: Copy, L: CodeLine<R>, V: Registers<R>>(
 }
 
 /// Does the instructions that are not counted, up to the next counted one, or to where one of them
-/// jumps.
+/// jumps. Most places have a counted one, which is asked for before anything is called.
+#[inline(always)]
 fn run_uncounted<R: Copy, L: CodeLine<R>, V: Registers<R>>(
+    context: u32,
+    code: &[L],
+    values: &mut V,
+    memory: &[u32],
+    at: u32,
+) -> Reached
+    requires runs { CanRun L.numbered (V.holds values.old) code.now }
+    requires within { at ≤ length code.now }
+    ensures held { V.holds values.new ≡ V.holds values.old }
+    ensures within { result.at ≤ length code.now }
+    ensures reached { (jump : ActiveContext R V.Values → ActiveContext R V.Values) (pending : Option R) →
+        uncounted (kind_by L.numbered V.reads V.writes) context memory.now jump (drop at code.now) (context_at at (V.values values.old) pending)
+        ≡ reached jump result.jumped (context_at result.at (V.values values.new) pending) }
+{
+    match line_at(code, at) {
+        Some(line) => {
+            if line.counted() {
+                Reached { at, jumped: false }
+            } else {
+                run_glue(context, code, values, memory, at)
+            }
+        }
+        None => Reached { at, jumped: false },
+    }
+}
+
+/// The same, where the first one is not counted.
+#[inline(never)]
+fn run_glue<R: Copy, L: CodeLine<R>, V: Registers<R>>(
     context: u32,
     code: &[L],
     values: &mut V,
@@ -104,6 +135,7 @@ fn run_uncounted<R: Copy, L: CodeLine<R>, V: Registers<R>>(
 }
 
 /// Does the instructions that are not counted, and says where the next counted one is.
+#[inline(always)]
 fn settle<R: Copy, L: CodeLine<R>, V: Registers<R>>(
     context: u32,
     code: &[L],

@@ -1,7 +1,7 @@
 use Rattle.std.proofs.Common.{◌≡◌, ◌-◌, ◌≤◌, Option, length, drop}
 use Rattle.semantics.specs.Stretches.{ActiveContext, uncounted}
 use Rattle.run_state.specs.Running.{kind_by, context_at}
-use Rattle.run_state.proofs.stretch.run_uncounted.Given as goal
+use Rattle.run_state.proofs.stretch.run_glue.Given as goal
 
 abbrev pub invariant-lines : goal.invariant-lines
 invariant-lines g l =
