@@ -1,19 +1,22 @@
 -- The words of a valid plan are formed.
 use Rattle.std.proofs.Common.{◌+◌, ◌≡◌, ℕ, zero, suc, ◌-◌, ◌*◌, ◌<◌, ◌≤◌, List, [], ◌∷◌, ◌++◌, map, length, Option, Some, None, Bool, true, false, refl, sym, ap, ◌∙◌, subst, length-append, inl, inr, arith}
-use Rattle.std.specs.Prelude.{slice_get, nat_lt, ◌&&◌, ◌||◌}
-use Rattle.std.specs.List.{AllByRecursion}
+use Rattle.std.specs.Prelude.{slice_get, option_map, nat_lt, ◌&&◌, ◌||◌}
+use Rattle.std.specs.List.{AllByRecursion, cons_option}
 use Rattle.std.proofs.lemmas.Bool.{lt-ltb}
 use Rattle.std.proofs.lemmas.Option.{same_Some, slice_get_within}
 use Rattle.micro_isa.specs.declared.instr.Instr.{Instr}
-use Rattle.micro_isa.specs.declared.instr.Instr.TheVariants.{Li, Mov, Alu, Div, Ctx, Jmp, Branch, Load, Store, Yield, Recv, Send, Halt}
 use Rattle.micro_isa.specs.declared.program.VReg.{VReg}
 use Rattle.micro_isa.specs.declared.program.Line.{Line}
 use Rattle.micro_isa.specs.declared.program.Channel.{Channel}
 use Rattle.micro_isa.specs.declared.image.PReg.{PReg}
 use Rattle.micro_isa.specs.declared.image.Word.{Word}
 use Rattle.micro_isa.specs.declared.image.Range.{Range}
-use Rattle.micro_isa.specs.Columns.{written_by, next_of}
-use Rattle.micro_isa.specs.Formed.{target_of, never_falls, all_below, names_below, fits_channels, is_counted_at, glue_fits, writes_within, lies_in}
+use Rattle.micro_isa.specs.declared.operands.Extra.{Extra}
+use Rattle.micro_isa.specs.declared.operands.Extra.TheVariants as extra
+use Rattle.micro_isa.specs.declared.operands.Operands.{Operands}
+use Rattle.micro_isa.specs.Operands.{operands_of, renamed, retargeted}
+use Rattle.micro_isa.specs.Columns.{registers, target_in, written_by, ends, next_of}
+use Rattle.micro_isa.specs.Formed.{target_of, never_falls, all_below, option_below, names_below, fits_channels, fits_extra, is_counted_at, glue_fits, writes_within, lies_in}
 use Rattle.flow_graph.specs.Paths.{GoesTo, IsClosedCode}
 use Rattle.liveness.specs.Liveness.{Reads}
 use Rattle.edge_moves.specs.declared.step.Step.{Step}
@@ -25,6 +28,7 @@ use Rattle.micro_isa.specs.Pieces.{pieces, total, HasAt}
 use Rattle.micro_isa.specs.declared.limits.TheConstants.{MOST_WORDS}
 use Rattle.emitted.specs.Edges.{most_edge_steps, row_at, place_or_zero, written_in, next_at, steps_for, edge_steps, steps_to, fall_steps, jump_steps}
 use Rattle.emitted.specs.Words.{reword, step_word, jump_word, address, size_with_jump, block_address, target_for, target_from, word_for, word_at, falls_at, piece_at, block_words, block_to, block_at, words_of_plan}
+use Rattle.micro_isa.proofs.Laws.{reworded, no_fall, jumps_to}
 use Rattle.micro_isa.proofs.Pieced.{length-pieces}
 use Rattle.emitted.proofs.Rows.{item_at, live_read, place_below, write_below}
 use Rattle.emitted.proofs.WordsOf.{here, counted_at, block_stands, piece_long, block_long, steps_within, steps_few}
@@ -62,80 +66,47 @@ below_two n a b h k = both (nat_lt a n) (all_below n (b ∷ [])) (lt-ltb a n h) 
 below_three : (n a b c : ℕ) → a < n → b < n → c < n → all_below n (a ∷ b ∷ c ∷ []) ≡ true
 below_three n a b c h k l = both (nat_lt a n) (all_below n (b ∷ c ∷ [])) (lt-ltb a n h) (below_two n b c k l)
 
--- the word of an instruction names registers of the file and words, where what it reads, writes and jumps to does
-module _ (file n : ℕ) (f : VReg → PReg) (g : PReg) (t : ℕ → ℕ) where
-  named_word : (line : ℕ) (o : Instr VReg) → ((v : VReg) → Reads (record { instr = o; line = line }) v.0 → (f v).0 < file) → ((d : VReg) → written_by o ≡ Some d → g.0 < file) → ((j : ℕ) → target_of o ≡ Some j → t j < n) → names_below (λ r. r.0) file n (reword f g t o) ≡ true
-  named_word line (Li to k) r w j = both (all_below file (g.0 ∷ [])) true (below_one file g.0 (w to refl)) refl
-  named_word line (Mov to from) r w j =
-      both (all_below file (g.0 ∷ (f from).0 ∷ [])) true (below_two file g.0 (f from).0 (w to refl) (r from (inl refl))) refl
-  named_word line (Alu op to a b) r w j =
-      both (all_below file (g.0 ∷ (f a).0 ∷ (f b).0 ∷ [])) true (below_three file g.0 (f a).0 (f b).0 (w to refl) (r a (inl refl)) (r b (inr refl))) refl
-  named_word line (Div op to a b) r w j =
-      both (all_below file (g.0 ∷ (f a).0 ∷ (f b).0 ∷ [])) true (below_three file g.0 (f a).0 (f b).0 (w to refl) (r a (inl refl)) (r b (inr refl))) refl
-  named_word line (Ctx to) r w j = both (all_below file (g.0 ∷ [])) true (below_one file g.0 (w to refl)) refl
-  named_word line (Jmp target) r w j = lt-ltb (t target) n (j target refl)
-  named_word line (Branch test a b target) r w j =
-      both (all_below file ((f a).0 ∷ (f b).0 ∷ [])) (nat_lt (t target) n) (below_two file (f a).0 (f b).0 (r a (inl refl)) (r b (inr refl))) (lt-ltb (t target) n (j target refl))
-  named_word line (Load to address) r w j =
-      both (all_below file (g.0 ∷ (f address).0 ∷ [])) true (below_two file g.0 (f address).0 (w to refl) (r address (inl refl))) refl
-  named_word line (Store address from) r w j =
-      both (all_below file ((f address).0 ∷ (f from).0 ∷ [])) true (below_two file (f address).0 (f from).0 (r address (inl refl)) (r from (inr refl))) refl
-  named_word line Yield r w j = refl
-  named_word line (Recv to channel) r w j = both (all_below file (g.0 ∷ [])) true (below_one file g.0 (w to refl)) refl
-  named_word line (Send channel from) r w j = both (all_below file ((f from).0 ∷ [])) true (below_one file (f from).0 (r from (inl refl))) refl
-  named_word line Halt r w j = refl
+-- one more register that is in the file, if there is one
+below_cons : (file : ℕ) (f : VReg → PReg) (o : Option VReg) (rs : List PReg) → ((v : VReg) → o ≡ Some v → (f v).0 < file) → all_below file (map (λ r. r.0) rs) ≡ true → all_below file (map (λ r. r.0) (cons_option (option_map f o) rs)) ≡ true
+below_cons file f None rs h all = all
+below_cons file f (Some v) rs h all = both (nat_lt (f v).0 file) (all_below file (map (λ r. r.0) rs)) (lt-ltb (f v).0 file (h v refl)) all
 
--- what stays: whether it falls, and the channel
-record Stays (chs : List Channel) (f : VReg → PReg) (g : PReg) (t : ℕ → ℕ) (o : Instr VReg) : Type 0 where
-  falls : never_falls (reword f g t o) ≡ never_falls o
-  channel : fits_channels chs (reword f g t o) ≡ fits_channels chs o
-  written : (own shared : Range) → ((d : VReg) → written_by o ≡ Some d → (lies_in own g.0 || lies_in shared g.0) ≡ true) → writes_within own shared (written_by (reword f g t o)) ≡ true
+-- what is no register: a target is a word, and a channel stays
 
-stays : (chs : List Channel) (f : VReg → PReg) (g : PReg) (t : ℕ → ℕ) (o : Instr VReg) → Stays chs f g t o
-stays chs f g t (Li to n) = record { falls = refl; channel = refl; written = λ own shared w. w to refl }
-stays chs f g t (Mov to from) = record { falls = refl; channel = refl; written = λ own shared w. w to refl }
-stays chs f g t (Alu op to a b) = record { falls = refl; channel = refl; written = λ own shared w. w to refl }
-stays chs f g t (Div op to a b) = record { falls = refl; channel = refl; written = λ own shared w. w to refl }
-stays chs f g t (Ctx to) = record { falls = refl; channel = refl; written = λ own shared w. w to refl }
-stays chs f g t (Jmp target) = record { falls = refl; channel = refl; written = λ own shared w. refl }
-stays chs f g t (Branch test a b target) = record { falls = refl; channel = refl; written = λ own shared w. refl }
-stays chs f g t (Load to address) = record { falls = refl; channel = refl; written = λ own shared w. w to refl }
-stays chs f g t (Store address from) = record { falls = refl; channel = refl; written = λ own shared w. refl }
-stays chs f g t Yield = record { falls = refl; channel = refl; written = λ own shared w. refl }
-stays chs f g t (Recv to channel) = record { falls = refl; channel = refl; written = λ own shared w. w to refl }
-stays chs f g t (Send channel from) = record { falls = refl; channel = refl; written = λ own shared w. refl }
-stays chs f g t Halt = record { falls = refl; channel = refl; written = λ own shared w. refl }
+below_target : (n : ℕ) (t : ℕ → ℕ) (e : Extra ℕ ℕ) → ((j : ℕ) → target_in e ≡ Some j → t j < n) → option_below n (target_in (retargeted t e)) ≡ true
+below_target n t (extra.Target target) h = lt-ltb (t target) n (h target refl)
+below_target n t _ h = refl
 
--- an instruction that never falls has no fall, and one with a target jumps there
-no_fall : (o : Instr VReg) (i : ℕ) → never_falls o ≡ true → (next_of o i).fall ≡ None
-no_fall (Li to n) i h = absurd (cc)
-no_fall (Mov to from) i h = absurd (cc)
-no_fall (Alu op to a b) i h = absurd (cc)
-no_fall (Div op to a b) i h = absurd (cc)
-no_fall (Ctx to) i h = absurd (cc)
-no_fall (Jmp target) i h = refl
-no_fall (Branch test a b target) i h = absurd (cc)
-no_fall (Load to address) i h = absurd (cc)
-no_fall (Store address from) i h = absurd (cc)
-no_fall Yield i h = absurd (cc)
-no_fall (Recv to channel) i h = absurd (cc)
-no_fall (Send channel from) i h = absurd (cc)
-no_fall Halt i h = refl
+same_channel : (chs : List Channel) (t : ℕ → ℕ) (e : Extra ℕ ℕ) → fits_extra chs (retargeted t e) ≡ fits_extra chs e
+same_channel chs t (extra.Target target) = refl
+same_channel chs t _ = refl
 
-jumps : (o : Instr VReg) (i j : ℕ) → target_of o ≡ Some j → (next_of o i).jump ≡ Some j
-jumps (Li to n) i j h = absurd (cc)
-jumps (Mov to from) i j h = absurd (cc)
-jumps (Alu op to a b) i j h = absurd (cc)
-jumps (Div op to a b) i j h = absurd (cc)
-jumps (Ctx to) i j h = absurd (cc)
-jumps (Jmp target) i j h = h
-jumps (Branch test a b target) i j h = h
-jumps (Load to address) i j h = absurd (cc)
-jumps (Store address from) i j h = absurd (cc)
-jumps Yield i j h = absurd (cc)
-jumps (Recv to channel) i j h = absurd (cc)
-jumps (Send channel from) i j h = absurd (cc)
-jumps Halt i j h = absurd (cc)
+module _ (f : VReg → PReg) (g : PReg) (t : ℕ → ℕ) where
+  -- the word of an instruction names registers of the file and words, where what it reads, writes and jumps to does
+  named_word : (file n line : ℕ) (o : Instr VReg) → ((v : VReg) → Reads (record { instr = o; line = line }) v.0 → (f v).0 < file) → ((d : VReg) → written_by o ≡ Some d → g.0 < file) → ((j : ℕ) → target_of o ≡ Some j → t j < n) → names_below (λ r. r.0) file n (reword f g t o) ≡ true
+  named_word file n line o r w j =
+      let x = operands_of o in
+      let second = below_cons file f x.b [] (λ v e. r v (inr e)) refl in
+      let first = below_cons file f x.a (cons_option (option_map f x.b) []) (λ v e. r v (inl e)) second in
+      let all = below_cons file (λ v. g) x.to (cons_option (option_map f x.a) (cons_option (option_map f x.b) [])) w first in
+      ap (λ (y : Operands PReg ℕ ℕ). all_below file (map (λ r. r.0) (registers y)) && option_below n (target_in y.extra)) (reworded f g t o).operands
+      ∙ both (all_below file (map (λ r. r.0) (registers (renamed f g t x)))) (option_below n (target_in (retargeted t x.extra))) all (below_target n t x.extra j)
+
+  -- what stays: whether it falls, and the channel
+  same_falls : (o : Instr VReg) → never_falls (reword f g t o) ≡ never_falls o
+  same_falls o = ap ends (reworded f g t o).operation
+
+  same_channels : (chs : List Channel) (o : Instr VReg) → fits_channels chs (reword f g t o) ≡ fits_channels chs o
+  same_channels chs o =
+      ap (λ (y : Operands PReg ℕ ℕ). fits_extra chs y.extra) (reworded f g t o).operands ∙ same_channel chs t (operands_of o).extra
+
+  written_word : (own shared : Range) (o : Instr VReg) → ((d : VReg) → written_by o ≡ Some d → (lies_in own g.0 || lies_in shared g.0) ≡ true) → writes_within own shared (written_by (reword f g t o)) ≡ true
+  written_word own shared o w =
+      ap (λ (y : Operands PReg ℕ ℕ). writes_within own shared y.to) (reworded f g t o).operands ∙ by (written_by o) w
+    where
+      by : (to : Option VReg) → ((d : VReg) → to ≡ Some d → (lies_in own g.0 || lies_in shared g.0) ≡ true) → writes_within own shared (option_map (λ r. g) to) ≡ true
+      by None h = refl
+      by (Some d) h = h d refl
 
 counted_there : (ws : List Word) (target : ℕ) (w : Word) → slice_get ws target ≡ Some w → w.counted ≡ true → is_counted_at ws (Some target) ≡ true
 counted_there ws target w h c = rw h c
@@ -251,7 +222,7 @@ module _ (code : List Line) (plan : Plan) (file : ℕ) (reg : ℕ → PReg) (one
           let l = item_at code k (omega arith) in
           let stops : never_falls l.0.instr ≡ true = ends l.0 (let at : length code - 1 ≡ k = omega arith in subst (λ n. slice_get code n ≡ Some l.0) (sym at) l.1) in
           let none : falls_at code plan reg k ≡ [] = ap (λ o. map (step_word reg) (steps_to code plan k (next_at o k).fall)) l.1 ∙ ap (λ o. map (step_word reg) (steps_to code plan k o)) (no_fall l.0.instr k stops) in
-          let word : never_falls (word_at code plan reg k).instr ≡ true = ap (λ o. never_falls (word_for code plan reg k o).instr) l.1 ∙ (stays [] (λ v. reg (place_in (row_at plan k).places v.0)) (reg (place_or_zero (row_at plan k).write)) (target_from code plan k) l.0.instr).falls ∙ stops in
+          let word : never_falls (word_at code plan reg k).instr ≡ true = ap (λ o. never_falls (word_for code plan reg k o).instr) l.1 ∙ same_falls (λ v. reg (place_in (row_at plan k).places v.0)) (reg (place_or_zero (row_at plan k).write)) (target_from code plan k) l.0.instr ∙ stops in
           subst StopsAt (sym (last_both None (pieces (piece_at code plan reg) k) (piece_at code plan reg k)))
           (subst (λ ws. StopsAt (last_or (Some (word_at code plan reg k)) ws)) (sym none) word)
 
@@ -264,15 +235,15 @@ module _ (code : List Line) (plan : Plan) (file : ℕ) (reg : ℕ → PReg) (one
         let l = item_at code i lt in
         let f : VReg → PReg = λ v. reg (place_in (row_at plan i).places v.0) in
         let g = reg (place_or_zero (row_at plan i).write) in
-        let s = stays chs f g (target_from code plan i) l.0.instr in
+        let t = target_from code plan i in
         subst (λ o. Formed (word_for code plan reg i o)) (sym l.1) (record {
-          named = named_word file (length words) f g (target_from code plan i) l.0.line l.0.instr
+          named = named_word f g t file (length words) l.0.line l.0.instr
               (λ v reads. inside (place_in (row_at plan i).places v.0) (place_below code plan valid i lt v.0 (live_read code i v.0 l.0 l.1 reads)))
               (λ d w. inside (place_or_zero (row_at plan i).write) (write_below code plan valid i lt l.0 l.1 d w))
-              (λ j t. target_below i j l.0 lt l.1 (jumps l.0.instr i j t));
-          written = s.written own shared (λ d w. within (place_or_zero (row_at plan i).write) (write_below code plan valid i lt l.0 l.1 d w));
+              (λ j e. target_below i j l.0 lt l.1 (jumps_to l.0.instr i ∙ e));
+          written = written_word f g t own shared l.0.instr (λ d w. within (place_or_zero (row_at plan i).write) (write_below code plan valid i lt l.0 l.1 d w));
           glue = refl;
-          channels = s.channel ∙ channels i l.0 l.1;
+          channels = same_channels f g t chs l.0.instr ∙ channels i l.0 l.1;
         })
 
     steps_formed : (ss : List Step) → StepsWithin plan.r ss → AllByRecursion Formed (map (step_word reg) ss)

@@ -8,6 +8,7 @@ use Rattle.micro_isa.specs.declared.program.VReg.{VReg}
 use Rattle.micro_isa.specs.declared.program.Line.{Line}
 use Rattle.micro_isa.specs.declared.image.PReg.{PReg}
 use Rattle.micro_isa.specs.declared.image.Word.{Word}
+use Rattle.micro_isa.specs.Columns.{reads_in, written_by, switches_at, next_of}
 use Rattle.micro_isa.specs.Arithmetic.{alu_of, test_of, quotient_of}
 use Rattle.semantics.specs.declared.SegmentExit.{SegmentExit}
 use Rattle.semantics.specs.declared.SegmentExit.TheVariants as stop
@@ -39,21 +40,13 @@ module _ (p : Laid) (size : ℕ) (words : List Word) (reg : ℕ → PReg) (tgt :
     pub way : Falls i w
     pub own : Own i w
 
-  abbrev pub Planned : ℕ → Instr VReg → Type 0
-  Planned i (Li to n) = Falls i (Some to)
-  Planned i (Mov to from) = p.live i from × Falls i (Some to)
-  Planned i (Alu op to a b) = p.live i a × p.live i b × Falls i (Some to)
-  Planned i (Div op to a b) = p.live i a × p.live i b × Falls i (Some to)
-  Planned i (Ctx to) = Falls i (Some to)
-  Planned i (Jmp target) = Way p size words reg i None (tgt i target) target
-  Planned i (Branch test a b target) =
-      p.live i a × p.live i b × Falls i None × Way p size words reg i None (tgt i target) target
-  Planned i (Load to address) = p.live i address × Rests i (Some to)
-  Planned i (Store address from) = p.live i address × p.live i from × Rests i None
-  Planned i Yield = Rests i None
-  Planned i (Recv to channel) = Rests i (Some to)
-  Planned i (Send channel from) = p.live i from × Rests i None
-  Planned i Halt = Unit {0}
+  -- what an instruction reads is live, and each way from it does the moves of its edge, at once or behind a switch
+  pub record Planned (i : ℕ) (o : Instr VReg) : Type 0 where
+    pub first : (v : VReg) → (reads_in o).first ≡ Some v → p.live i v
+    pub second : (v : VReg) → (reads_in o).second ≡ Some v → p.live i v
+    pub fall : (next_of o i).fall ≡ Some (i + 1) → Falls i (written_by o)
+    pub jump : (j : ℕ) → (next_of o i).jump ≡ Some j → Way p size words reg i (written_by o) (tgt i j) j
+    pub rests : switches_at o ≡ true → (next_of o i).fall ≡ Some (i + 1) → Rests i (written_by o)
 
   abbrev place_of : ℕ → VReg → PReg
   place_of i v = preg (p.loc i v)
@@ -125,24 +118,24 @@ module _ (p : Laid) (size : ℕ) (words : List Word) (reg : ℕ → PReg) (tgt :
         by false = goes_on (x.kept.at + 1) (p.addr x.kept.at + 1) fall
 
     matches : (line : ℕ) (o : Instr VReg) → Planned x.kept.at o → MatchesEffects p size words reg c memory x (on x file) (effect_of c line o x.values memory x.kept) (effect_of c line (reword (place_of x.kept.at) w (tgt x.kept.at) o) (read_in file) memory (on x file).kept)
-    matches line (Li to n) k = writes_on to n n refl k
-    matches line (Mov to from) k = writes_on to (x.values from) (read_in file (place_of x.kept.at from)) (read from k.0) k.1
+    matches line (Li to n) k = writes_on to n n refl (k.fall refl)
+    matches line (Mov to from) k = writes_on to (x.values from) (read_in file (place_of x.kept.at from)) (read from (k.first from refl)) (k.fall refl)
     matches line (Alu op to d e) k =
-        writes_on to (alu_of op (x.values d) (x.values e)) (alu_of op (read_in file (place_of x.kept.at d)) (read_in file (place_of x.kept.at e))) (λ j. alu_of op (read d k.0 j) (read e k.1 j)) k.2
+        writes_on to (alu_of op (x.values d) (x.values e)) (alu_of op (read_in file (place_of x.kept.at d)) (read_in file (place_of x.kept.at e))) (λ j. alu_of op (read d (k.first d refl) j) (read e (k.second e refl) j)) (k.fall refl)
     matches line (Div op to d e) k =
-        divides (quotient_of op (x.values d) (x.values e)) (quotient_of op (read_in file (place_of x.kept.at d)) (read_in file (place_of x.kept.at e))) (λ j. quotient_of op (read d k.0 j) (read e k.1 j)) to line k.2
-    matches line (Ctx to) k = writes_on to c c refl k
-    matches line (Jmp target) k = goes_on target (tgt x.kept.at target) k
+        divides (quotient_of op (x.values d) (x.values e)) (quotient_of op (read_in file (place_of x.kept.at d)) (read_in file (place_of x.kept.at e))) (λ j. quotient_of op (read d (k.first d refl) j) (read e (k.second e refl) j)) to line (k.fall refl)
+    matches line (Ctx to) k = writes_on to c c refl (k.fall refl)
+    matches line (Jmp target) k = goes_on target (tgt x.kept.at target) (k.jump target refl)
     matches line (Branch test d e target) k =
-        branches (test_of test (x.values d) (x.values e)) (test_of test (read_in file (place_of x.kept.at d)) (read_in file (place_of x.kept.at e))) (λ j. test_of test (read d k.0 j) (read e k.1 j)) target (tgt x.kept.at target) k.2 k.3
+        branches (test_of test (x.values d) (x.values e)) (test_of test (read_in file (place_of x.kept.at d)) (read_in file (place_of x.kept.at e))) (λ j. test_of test (read d (k.first d refl) j) (read e (k.second e refl) j)) target (tgt x.kept.at target) (k.fall refl) (k.jump target refl)
     matches line (Load to address) k =
-        rests (stop.Load (x.values address) line) (stop.Load (read_in file (place_of x.kept.at address)) line) (Some to) (sym (ap (λ v. stop.Load v line) (read address k.0))) refl tt k.1
+        rests (stop.Load (x.values address) line) (stop.Load (read_in file (place_of x.kept.at address)) line) (Some to) (sym (ap (λ v. stop.Load v line) (read address (k.first address refl)))) refl tt (k.rests refl refl)
     matches line (Store address from) k =
-        rests (stop.Store (x.values address) (x.values from) line) (stop.Store (read_in file (place_of x.kept.at address)) (read_in file (place_of x.kept.at from)) line) None (sym (λ j. stop.Store (read address k.0 j) (read from k.1 j) line)) refl tt k.2
-    matches line Yield k = rests stop.Yield stop.Yield None refl refl tt k
-    matches line (Recv to channel) k = rests (stop.Recv channel) (stop.Recv channel) (Some to) refl refl tt k
+        rests (stop.Store (x.values address) (x.values from) line) (stop.Store (read_in file (place_of x.kept.at address)) (read_in file (place_of x.kept.at from)) line) None (sym (λ j. stop.Store (read address (k.first address refl) j) (read from (k.second from refl) j) line)) refl tt (k.rests refl refl)
+    matches line Yield k = rests stop.Yield stop.Yield None refl refl tt (k.rests refl refl)
+    matches line (Recv to channel) k = rests (stop.Recv channel) (stop.Recv channel) (Some to) refl refl tt (k.rests refl refl)
     matches line (Send channel from) k =
-        rests (stop.Send channel (x.values from)) (stop.Send channel (read_in file (place_of x.kept.at from))) None (sym (ap (λ v. stop.Send channel v) (read from k.0))) refl tt k.1
+        rests (stop.Send channel (x.values from)) (stop.Send channel (read_in file (place_of x.kept.at from))) None (sym (ap (λ v. stop.Send channel v) (read from (k.first from refl)))) refl tt (k.rests refl refl)
     matches line Halt k = (refl, refl, tt, refl, λ lives. absurd (cc))
 
   pub carries : (c : ℕ) (memory : List ℕ) (code : List Line) → AllPlanned code → Carries p size words reg c memory code

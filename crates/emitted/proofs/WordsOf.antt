@@ -4,8 +4,6 @@ use Rattle.std.specs.Prelude.{slice_get, slice_index, option_map, ◌==◌, if�
 use Rattle.std.proofs.lemmas.Bool.{eqb-true, eqb-false}
 use Rattle.std.proofs.lemmas.List.{length-map}
 use Rattle.std.proofs.lemmas.Option.{same_Some, slice_get_within}
-use Rattle.micro_isa.specs.declared.instr.Instr.{Instr}
-use Rattle.micro_isa.specs.declared.instr.Instr.TheVariants.{Li, Mov, Alu, Div, Ctx, Jmp, Branch, Load, Store, Yield, Recv, Send, Halt}
 use Rattle.micro_isa.specs.declared.program.VReg.{VReg}
 use Rattle.micro_isa.specs.declared.program.Line.{Line}
 use Rattle.micro_isa.specs.declared.image.PReg.{PReg}
@@ -273,30 +271,20 @@ module _ (code : List Line) (plan : Plan) (size : ℕ) (reg : ℕ → PReg) wher
       rests : switches_at l.instr ≡ true → (next_of l.instr i).fall ≡ Some (i + 1) → Rests laid size words reg (target_from code plan) i (written_by l.instr)
       rests switches next = record { way = fall next; own = own switches next }
 
-    planned : (i line : ℕ) (o : Instr VReg) → i < length code → slice_get code i ≡ Some (record { instr = o; line = line }) → Planned laid size words reg (target_from code plan) i o
-    planned i line (Li to n) lt is = fall i _ lt is refl
-    planned i line (Mov to from) lt is = (live_read code i from.0 _ is (inl refl), fall i _ lt is refl)
-    planned i line (Alu op to a b) lt is =
-        (live_read code i a.0 _ is (inl refl), live_read code i b.0 _ is (inr refl), fall i _ lt is refl)
-    planned i line (Div op to a b) lt is =
-        (live_read code i a.0 _ is (inl refl), live_read code i b.0 _ is (inr refl), fall i _ lt is refl)
-    planned i line (Ctx to) lt is = fall i _ lt is refl
-    planned i line (Jmp target) lt is = jump i _ lt is target refl
-    planned i line (Branch test a b target) lt is =
-        (live_read code i a.0 _ is (inl refl), live_read code i b.0 _ is (inr refl), fall i _ lt is refl, jump i _ lt is target refl)
-    planned i line (Load to address) lt is = (live_read code i address.0 _ is (inl refl), rests i _ lt is refl refl)
-    planned i line (Store address from) lt is =
-        (live_read code i address.0 _ is (inl refl), live_read code i from.0 _ is (inr refl), rests i _ lt is refl refl)
-    planned i line Yield lt is = rests i _ lt is refl refl
-    planned i line (Recv to channel) lt is = rests i _ lt is refl refl
-    planned i line (Send channel from) lt is = (live_read code i from.0 _ is (inl refl), rests i _ lt is refl refl)
-    planned i line Halt lt is = tt
+    planned : (i : ℕ) (l : Line) → i < length code → slice_get code i ≡ Some l → Planned laid size words reg (target_from code plan) i l.instr
+    planned i l lt is = record {
+      first = λ v e. live_read code i v.0 l is (inl e);
+      second = λ v e. live_read code i v.0 l is (inr e);
+      fall = fall i l lt is;
+      jump = jump i l lt is;
+      rests = rests i l lt is;
+    }
 
     all_planned : AllPlanned laid size words reg (target_from code plan) code
     all_planned = record {
       some = λ i lt. item_at code i lt;
       word = λ i l is. let lt = slice_get_within code i l is in ap (option_map numbered_word) (here i lt ∙ ap (λ o. Some (word_for code plan reg i o)) is);
-      each = λ i l is. planned i l.line l.instr (slice_get_within code i l is) is;
+      each = λ i l is. planned i l (slice_get_within code i l is) is;
     }
 
     pub plan_carries : (c : ℕ) (memory : List ℕ) → Carries laid size words reg c memory code

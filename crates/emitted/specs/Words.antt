@@ -2,8 +2,7 @@
 -- need steps.
 use Rattle.std.specs.Prelude.{ℕ, ◌+◌, List, [], ◌∷◌, ◌++◌, map, length, Option, Some, None, true, false, slice_get}
 use Rattle.micro_isa.specs.declared.arithmetic.AluOp.TheVariants as op
-use Rattle.micro_isa.specs.declared.instr.Instr.{Instr}
-use Rattle.micro_isa.specs.declared.instr.Instr.TheVariants.{Li, Mov, Alu, Div, Ctx, Jmp, Branch, Load, Store, Yield, Recv, Send, Halt}
+use Rattle.micro_isa.specs.declared.instr.Instr.TheVariants.{Mov, Alu, Jmp}
 use Rattle.micro_isa.specs.declared.program.Line.{Line}
 use Rattle.micro_isa.specs.declared.image.PReg.{PReg}
 use Rattle.micro_isa.specs.declared.image.Word.{Word}
@@ -11,24 +10,9 @@ use Rattle.edge_moves.specs.declared.step.Step.{Step}
 use Rattle.edge_moves.specs.declared.step.Step.TheVariants as step
 use Rattle.plan.specs.declared.row.Plan.{Plan}
 use Rattle.plan.specs.ValidPlans.{place_in}
+pub use Rattle.micro_isa.specs.Operands.{reword}
 use Rattle.micro_isa.specs.Pieces.{pieces, total}
 use Rattle.emitted.specs.Edges.{row_at, place_or_zero, next_at, edge_steps, fall_steps, jump_steps}
-
--- an instruction over other registers: from where it reads, where it writes and where it jumps
-abbrev pub reword : {R S : Type 0} → (R → S) → S → (ℕ → ℕ) → Instr R → Instr S
-reword f g t (Li to n) = Li g n
-reword f g t (Mov to from) = Mov g (f from)
-reword f g t (Alu op to a b) = Alu op g (f a) (f b)
-reword f g t (Div op to a b) = Div op g (f a) (f b)
-reword f g t (Ctx to) = Ctx g
-reword f g t (Jmp target) = Jmp (t target)
-reword f g t (Branch test a b target) = Branch test (f a) (f b) (t target)
-reword f g t (Load to address) = Load g (f address)
-reword f g t (Store address from) = Store (f address) (f from)
-reword f g t Yield = Yield
-reword f g t (Recv to channel) = Recv g channel
-reword f g t (Send channel from) = Send channel (f from)
-reword f g t Halt = Halt
 
 -- words that are not counted: a step over places, where reg says which register a place is, and a jump
 abbrev pub step_word : (ℕ → PReg) → Step → Word
