@@ -11,12 +11,13 @@ use Rattle.micro_isa.specs.declared.program.Line.{Line}
 use Rattle.micro_isa.specs.Formed.{Each, firsts_after, named_by, names_below, target_of, is_labelled, fits_channels, always_rises, never_falls, never_drops, all_below, is_distinct, IsFormedProgram}
 use Rattle.asm_lines.specs.Cutting.{TextLine}
 use Rattle.asm_lines.specs.Tables.{knows, declare, one}
-use Rattle.asm_lines.proofs.First.{none_at}
+use Rattle.asm_lines.specs.declared.fault.BundleKind.TheVariants as kind
+use Rattle.asm_lines.proofs.First.{none_met}
+use Rattle.asm_lines.proofs.Verdicts.{none_at}
 use Rattle.asm_context.specs.Forms.{does, ends, registers_in}
 use Rattle.asm_context.specs.Said.{Said, with_line, line_body, said_by, count}
-use Rattle.asm_context.specs.Faults.{Channels, line_fault, faults_after, lines_fault}
+use Rattle.asm_context.specs.Faults.{Channels, body_test, line_fault, faults_after, lines_fault}
 use Rattle.asm_context.specs.Programs.{instr_in, on_line, line_code, code_after, code_of, labels_from, program_of}
-use Rattle.asm_context.proofs.Free.{tests_free}
 use Rattle.asm_context.proofs.Naming.{said_snoc}
 use Rattle.asm_context.proofs.Numbering.{numbers, places_all, firsts-append, first_names}
 use Rattle.asm_context.proofs.Labelling.{names_from, targets_from}
@@ -87,11 +88,11 @@ coded_line : (chs : Channels) (all s : Said) (least : ℕ) (line : TextLine) (la
 coded_line chs all s least line later o grown e le c =
     let b = line_body line in
     let now = with_line s line in
-    let t = tests_free chs (list_any (knows s.labels) (one b.label)) now all line.fair b e in
-    let clean : IsClean chs all b.form = record { known = t.directive; counted = t.operands; channel = t.channel_kind; label = t.label_unknown } in
+    let t = none_met (body_test chs (list_any (knows s.labels) (one b.label)) now all line.fair b) e in
+    let clean : IsClean chs all b.form = record { known = t kind.Directive; counted = t kind.Operands; channel = t kind.ChannelKind; label = t kind.LabelUnknown } in
     code_line chs all s least line (instr_in now.registers chs.names all b.form) later
     (form_fact chs all now b.form (made_body line.words) clean o (known_fold (registers_in b.form) s.registers) grown)
-    (λ is same. end_here now.done all.done (does b.form) (ends b.form) (is_some b.label) is same t.falls_off)
+    (λ is same. end_here now.done all.done (does b.form) (ends b.form) (is_some b.label) is same (t kind.FallsOff))
     le c
 
 coded_after : (chs : Channels) (all : Said) (before lines : List TextLine) (least : ℕ) → IsOrderly all all → faults_after chs all before lines ≡ None → all ≡ fold with_line (said_by before) lines → always_rises least (map (λ l. l.number) lines) ≡ true → IsCode chs all (said_by before) least (code_after chs.names all before lines)

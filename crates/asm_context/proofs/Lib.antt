@@ -1,5 +1,4 @@
 pub mod Forming
-pub mod Free
 pub mod Instructing
 pub mod Labelling
 pub mod Naming

@@ -7,13 +7,14 @@ use Rattle.asm_lines.specs.Cutting.{TextLine}
 use Rattle.micro_isa.specs.declared.limits.TheConstants.{MOST_REGISTERS, MOST_INSTRUCTIONS}
 use Rattle.asm_lines.specs.Tables.{knows, misnamed, one}
 use Rattle.std.specs.List.{list_any}
-use Rattle.asm_lines.proofs.First.{none_at}
-use Rattle.asm_context.proofs.Free.{tests_free}
+use Rattle.asm_lines.specs.declared.fault.BundleKind.TheVariants as kind
+use Rattle.asm_lines.proofs.First.{none_met}
+use Rattle.asm_lines.proofs.Verdicts.{none_at}
 use Rattle.asm_lines.proofs.Known.{named_fold}
 use Rattle.asm_lines.proofs.Rows.{fold-snoc}
 use Rattle.asm_context.specs.Forms.{Body, registers_in, goes_to, receives_from, sends_to}
 use Rattle.asm_context.specs.Said.{Said, nothing, with_body, with_line, line_body, said_by}
-use Rattle.asm_context.specs.Faults.{Channels, is_misnamed, body_fault, line_fault, faults_after, lines_fault}
+use Rattle.asm_context.specs.Faults.{Channels, body_test, is_misnamed, body_fault, line_fault, faults_after, lines_fault}
 
 pub record IsNamed (s : Said) : Type 0 where
   pub labels : list_all name_test s.labels ≡ true
@@ -31,8 +32,8 @@ named_body s b n e =
 
 pub named_line : (chs : Channels) (earlier all : Said) (line : TextLine) → IsNamed earlier → line_fault chs earlier all line ≡ None → IsNamed (with_line earlier line)
 named_line chs earlier all line n e =
-    let t = tests_free chs (list_any (knows earlier.labels) (one (line_body line).label)) (with_line earlier line) all line.fair (line_body line) e in
-    named_body earlier (line_body line) n t.name
+    let t = none_met (body_test chs (list_any (knows earlier.labels) (one (line_body line).label)) (with_line earlier line) all line.fair (line_body line)) e in
+    named_body earlier (line_body line) n (t kind.Name)
 
 pub said_snoc : (before : List TextLine) (line : TextLine) → said_by (before ++ line ∷ []) ≡ with_line (said_by before) line
 said_snoc before line = fold-snoc with_line nothing before line
@@ -50,5 +51,5 @@ named chs lines e = named_after chs (said_by lines) [] lines (record { labels = 
 -- a line without a fault has no register too many
 pub few_registers : (chs : Channels) (twice : Bool) (now all : Said) (fair : Bool) (b : Body) → body_fault chs twice now all fair b ≡ None → length now.registers ≤ MOST_REGISTERS
 few_registers chs twice now all fair b e =
-    let t = tests_free chs twice now all fair b e in
-    ltb-false MOST_REGISTERS (length now.registers) (or_parts (nat_lt MOST_REGISTERS (length now.registers)) (nat_lt MOST_INSTRUCTIONS now.done) t.limit).0
+    let t = none_met (body_test chs twice now all fair b) e in
+    ltb-false MOST_REGISTERS (length now.registers) (or_parts (nat_lt MOST_REGISTERS (length now.registers)) (nat_lt MOST_INSTRUCTIONS now.done) (t kind.Limit)).0

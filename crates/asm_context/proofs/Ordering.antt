@@ -10,12 +10,13 @@ use Rattle.micro_isa.specs.Formed.{is_distinct, all_below, never_drops}
 use Rattle.asm_lines.specs.Cutting.{Words, TextLine}
 use Rattle.micro_isa.specs.declared.limits.TheConstants.{MOST_REGISTERS, MOST_INSTRUCTIONS}
 use Rattle.asm_lines.specs.Tables.{knows, declare, one}
-use Rattle.asm_lines.proofs.First.{none_at}
-use Rattle.asm_context.proofs.Free.{tests_free}
+use Rattle.asm_lines.specs.declared.fault.BundleKind.TheVariants as kind
+use Rattle.asm_lines.proofs.First.{none_met}
+use Rattle.asm_lines.proofs.Verdicts.{none_at}
 use Rattle.asm_lines.proofs.Known.{distinct_snoc, distinct_fold, other_word}
 use Rattle.asm_context.specs.Forms.{Body, does, ends, registers_in}
 use Rattle.asm_context.specs.Said.{Said, with_body, with_line, line_body, said_by, count, targets_after}
-use Rattle.asm_context.specs.Faults.{Channels, is_loose, line_fault, faults_after, lines_fault}
+use Rattle.asm_context.specs.Faults.{Channels, body_test, is_loose, line_fault, faults_after, lines_fault}
 use Rattle.asm_context.proofs.Naming.{said_snoc}
 
 -- labels and their targets, where so many instructions stand before, of so many in all
@@ -92,14 +93,14 @@ orderly_line : (chs : Channels) (all s : Said) (line : TextLine) → IsOrderly a
 orderly_line chs all s line o le e =
     let b = line_body line in
     let now = with_line s line in
-    let t = tests_free chs (list_any (knows s.labels) (one b.label)) now all line.fair b e in
-    let limits = or_parts (nat_lt MOST_REGISTERS (length now.registers)) (nat_lt MOST_INSTRUCTIONS now.done) t.limit in
+    let t = none_met (body_test chs (list_any (knows s.labels) (one b.label)) now all line.fair b) e in
+    let limits = or_parts (nat_lt MOST_REGISTERS (length now.registers)) (nat_lt MOST_INSTRUCTIONS now.done) (t kind.Limit) in
     record {
       registers = ltb-false MOST_REGISTERS (length now.registers) limits.0;
       done = ltb-false MOST_INSTRUCTIONS now.done limits.1;
       distinct = distinct_fold (registers_in b.form) s.registers o.distinct;
       labels = labels_later all.done s.done now.done now.labels now.targets (omega arith)
-          (labels_with all.done s.done s.labels s.targets b.label o.labels (λ name is. before_end all s b name le t.falls_off is));
+          (labels_with all.done s.done s.labels s.targets b.label o.labels (λ name is. before_end all s b name le (t kind.FallsOff) is));
     }
 
 count_grows : (s : Said) (line : TextLine) → s.done ≤ (with_line s line).done

@@ -3,7 +3,9 @@ use Rattle.std.proofs.Common.{◌≡◌, ◌++◌, ◌≤◌, ◌<◌, ℕ, ◌+
 use Rattle.micro_isa.specs.declared.program.Line.{Line}
 use Rattle.asm_lines.specs.declared.fault.BundleFault.{BundleFault}
 use Rattle.asm_lines.specs.Cutting.{TextLine}
-use Rattle.asm_lines.specs.Faults.{at_or, Causes}
+use Rattle.asm_lines.specs.Faults.{Causes}
+use Rattle.asm_lines.specs.Sections.{ahead, after, LinesLeft, TakesInside}
+use Rattle.asm_lines.specs.Verdicts.{at_or}
 use Rattle.asm_lines.proofs.Causing.{caused}
 use Rattle.asm_lines.proofs.Rows.{fold-snoc}
 use Rattle.asm_context.specs.Forms.{does}
@@ -63,6 +65,21 @@ pub fault_on : (chs : Channels) (x : TextLine) (old all : Said) (code : List Lin
 fault_on chs x old all code why now later whole is a c r =
     subst (Causes why) (sym (ap (faults_after chs (said_by whole) r.before) is) ∙ r.faults)
     (caused why x.number _ _ (subst (λ k. Causes why (at_or x.number k None)) (sym (same_fault chs whole r.before x old all r.said a)) c))
+
+-- the same, with the lines of later contexts
+abbrev pub IsAlong : Channels → Said → List Line → LinesLeft → LinesLeft → Type 0
+IsAlong chs noted made left whole = record {
+  read : IsRead chs noted made (ahead left.lines) (ahead whole.lines);
+  after : after left.lines ≡ after whole.lines;
+  count : left.number + length left.lines ≡ whole.number + length whole.lines;
+}
+
+pub along : (chs : Channels) (x : TextLine) (old new all : Said) (code more : List Line) (left next whole : LinesLeft) → TakesInside left x next → all ≡ outline (said_by (ahead whole.lines)) → new ≡ with_line old x → line_fault chs old all x ≡ None → more ≡ code ++ line_code chs.names old all x → IsAlong chs old code left whole → IsAlong chs new more next whole
+along chs x old new all code more left next whole t a n f m i = record {
+  read = read_on chs x old new all code more (ahead left.lines) (ahead next.lines) (ahead whole.lines) t.ahead a n f m i.read;
+  after = sym t.after ∙ i.after;
+  count = omega (arith, t.number, ap length t.lines, i.count);
+}
 
 -- after the last line
 

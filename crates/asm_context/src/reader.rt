@@ -1,7 +1,8 @@
 ghost use Rattle.std.specs.Prelude.{◌≡◌, ◌++◌, ◌<◌, ◌≤◌, [], None, IfOk, OnOk, IfErr, length, true};
 ghost use Rattle.std.specs.List.{list_all};
 ghost use Rattle.micro_isa.specs.Names.{IsName, name_test};
-ghost use Rattle.asm_lines.specs.Faults.{Causes, at_or};
+ghost use Rattle.asm_lines.specs.Faults.{Causes};
+ghost use Rattle.asm_lines.specs.Verdicts.{at_or};
 ghost use Rattle.micro_isa.specs.declared.limits.TheConstants.{MOST_CHANNELS};
 ghost use Rattle.asm_lines.specs.Sections.{ahead, IsPast};
 ghost use Rattle.asm_lines.specs.Tables.{words_seen};

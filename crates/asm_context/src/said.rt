@@ -47,7 +47,8 @@ pub fn note_label<'a>(
     let Some(name) = label else {
         return Ok(());
     };
-    if declare(labels, name)? {
+    let (_, is_new) = declare(labels, name)?;
+    if is_new {
         match targets.push(done) {
             Ok(()) => {}
             Err(_) => return Err(NoMemory),

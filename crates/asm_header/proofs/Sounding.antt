@@ -11,17 +11,18 @@ use Rattle.micro_isa.specs.declared.program.Channel.{Channel}
 use Rattle.micro_isa.specs.declared.program.Channel.TheVariants as channel
 use Rattle.micro_isa.specs.Names.{name_test}
 use Rattle.micro_isa.specs.Formed.{is_distinct, all_below, has_formed_ring, port_of, initial_count}
+use Rattle.asm_lines.specs.declared.fault.BundleKind.TheVariants as kind
 use Rattle.asm_lines.specs.Cutting.{TextLine}
 use Rattle.micro_isa.specs.declared.limits.TheConstants.{MOST_CHANNELS, MOST_INITIAL_WORDS, MOST_FILE, MOST_MEMORY, MOST_RING, MOST_PORTS}
 use Rattle.asm_lines.specs.Numbers.{number_or}
 use Rattle.asm_lines.specs.Tables.{knows, place_of, declare}
-use Rattle.asm_lines.proofs.First.{none_at}
+use Rattle.asm_lines.proofs.First.{none_met}
+use Rattle.asm_lines.proofs.Verdicts.{none_at}
 use Rattle.asm_lines.proofs.Known.{distinct_snoc, distinct_declare, named_declare, declare_new, other_number}
 use Rattle.asm_header.specs.Forms.{HeaderForm, Blank, File, Memory, Inner, Input, PortInput, Output, PortOutput, Initial, Miscounted, Unknown, header_form}
 use Rattle.asm_header.specs.Headers.{Header, no_header, header_of, with_form, with_line, PortFits}
-use Rattle.asm_header.specs.Faults.{is_from, is_bad_port, is_input, form_fault, line_fault, faults_after, header_fault}
+use Rattle.asm_header.specs.Faults.{is_from, is_bad_port, is_input, form_test, form_fault, line_fault, faults_after, header_fault}
 use Rattle.asm_header.specs.Sound.{IsSound}
-use Rattle.asm_header.proofs.Free.{tests_free}
 use Rattle.asm_header.proofs.Filling.{filled_length, filled_ports, filled_rings, filled_count, sum_cons}
 
 pub sound_none : IsSound no_header
@@ -97,6 +98,22 @@ sound_added h name c s a =
       words = s.words;
     }
 
+-- a header with other sizes
+sound_sized : (h : Header) (file memory : Option ℕ) → IsSound h → ((n : ℕ) → file ≡ Some n → (1 ≤ n) × (n ≤ MOST_FILE)) → ((n : ℕ) → memory ≡ Some n → n ≤ MOST_MEMORY) → IsSound (record { file = file; memory = memory; names = h.names; channels = h.channels; words = h.words })
+sound_sized h file memory s f m = record {
+  file = f;
+  memory = m;
+  few = s.few;
+  same = s.same;
+  named = s.named;
+  distinct = s.distinct;
+  rings = s.rings;
+  ports = s.ports;
+  apart = s.apart;
+  counted = s.counted;
+  words = s.words;
+}
+
 -- what the tests of a line say where they are not met
 
 first_of : (a : Bool) → (a || false) ≡ false → a ≡ false
@@ -131,8 +148,8 @@ free_port h port e p same =
     subst (λ p. (p < MOST_PORTS) × (list_any (nat_eq p) (filter_map port_of h.channels) ≡ false)) (same_Some (number_or port) p same) (leb-false MOST_PORTS (number_or port) parts.0, parts.1)
 
 pub port_fits : (h : Header) (fair : Bool) (form : HeaderForm) → form_fault h fair form ≡ None → PortFits form
-port_fits h fair (PortInput name port capacity) e = (free_port h port (tests_free h fair (PortInput name port capacity) e).port (number_or port) refl).0
-port_fits h fair (PortOutput name port) e = (free_port h port (tests_free h fair (PortOutput name port) e).port (number_or port) refl).0
+port_fits h fair (PortInput name port capacity) e = (free_port h port (none_met (form_test h fair (PortInput name port capacity)) e kind.Port) (number_or port) refl).0
+port_fits h fair (PortOutput name port) e = (free_port h port (none_met (form_test h fair (PortOutput name port)) e kind.Port) (number_or port) refl).0
 port_fits h fair _ e = tt
 
 no_port_at : {A : Type 0} (p : ℕ) → None ≡ Some p → A
@@ -140,97 +157,72 @@ no_port_at p e = absurd (cc)
 
 pub sound_form : (h : Header) (fair : Bool) (form : HeaderForm) → IsSound h → form_fault h fair form ≡ None → IsSound (with_form h form)
 sound_form h fair (File size) s e =
-    let t = tests_free h fair (File size) e in
-    let range = and_parts (nat_le 1 (number_or size)) (nat_le (number_or size) MOST_FILE) (size_part (is_from 1 MOST_FILE size) t.limit) in
+    let t = none_met (form_test h fair (File size)) e in
+    let range = and_parts (nat_le 1 (number_or size)) (nat_le (number_or size) MOST_FILE) (size_part (is_from 1 MOST_FILE size) (t kind.Limit)) in
     let is : (1 ≤ number_or size) × (number_or size ≤ MOST_FILE) = (leb-true 1 (number_or size) range.0, leb-true (number_or size) MOST_FILE range.1) in
-    record {
-      file = λ n same. subst (λ n. (1 ≤ n) × (n ≤ MOST_FILE)) (same_Some (number_or size) n same) is;
-      memory = s.memory;
-      few = s.few;
-      same = s.same;
-      named = s.named;
-      distinct = s.distinct;
-      rings = s.rings;
-      ports = s.ports;
-      apart = s.apart;
-      counted = s.counted;
-      words = s.words;
-    }
+    sound_sized h (Some (number_or size)) h.memory s (λ n same. subst (λ n. (1 ≤ n) × (n ≤ MOST_FILE)) (same_Some (number_or size) n same) is) s.memory
 sound_form h fair (Memory size) s e =
-    let t = tests_free h fair (Memory size) e in
-    let range = and_parts (nat_le 0 (number_or size)) (nat_le (number_or size) MOST_MEMORY) (size_part (is_from 0 MOST_MEMORY size) t.limit) in
-    let is = leb-true (number_or size) MOST_MEMORY range.1 in
-    record {
-      file = s.file;
-      memory = λ n same. subst (λ n. n ≤ MOST_MEMORY) (same_Some (number_or size) n same) is;
-      few = s.few;
-      same = s.same;
-      named = s.named;
-      distinct = s.distinct;
-      rings = s.rings;
-      ports = s.ports;
-      apart = s.apart;
-      counted = s.counted;
-      words = s.words;
-    }
+    let t = none_met (form_test h fair (Memory size)) e in
+    let range = and_parts (nat_le 0 (number_or size)) (nat_le (number_or size) MOST_MEMORY) (size_part (is_from 0 MOST_MEMORY size) (t kind.Limit)) in
+    sound_sized h h.file (Some (number_or size)) s s.file (λ n same. subst (λ n. n ≤ MOST_MEMORY) (same_Some (number_or size) n same) (leb-true (number_or size) MOST_MEMORY range.1))
 sound_form h fair (Inner name capacity) s e =
-    let t = tests_free h fair (Inner name capacity) e in
-    let limits = ring_part (is_from 1 MOST_RING capacity) (nat_le MOST_CHANNELS (length h.names)) t.limit in
+    let t = none_met (form_test h fair (Inner name capacity)) e in
+    let limits = ring_part (is_from 1 MOST_RING capacity) (nat_le MOST_CHANNELS (length h.names)) (t kind.Limit) in
     sound_added h name (channel.Inner (number_or capacity)) s (record {
-      is_name = name_part (name_test name) t.name;
-      is_new = first_of (knows h.names name) t.repeated;
+      is_name = name_part (name_test name) (t kind.Name);
+      is_new = first_of (knows h.names name) (t kind.Repeated);
       room = has_room h limits.1;
       ring = limits.0;
       none = refl;
       port = λ p same. no_port_at p same;
     })
 sound_form h fair (Input name) s e =
-    let t = tests_free h fair (Input name) e in
+    let t = none_met (form_test h fair (Input name)) e in
     sound_added h name (channel.Input [] None) s (record {
-      is_name = name_part (name_test name) t.name;
-      is_new = first_of (knows h.names name) t.repeated;
-      room = has_room h (first_of (nat_le MOST_CHANNELS (length h.names)) t.limit);
+      is_name = name_part (name_test name) (t kind.Name);
+      is_new = first_of (knows h.names name) (t kind.Repeated);
+      room = has_room h (first_of (nat_le MOST_CHANNELS (length h.names)) (t kind.Limit));
       ring = refl;
       none = refl;
       port = λ p same. no_port_at p same;
     })
 sound_form h fair (PortInput name port capacity) s e =
-    let t = tests_free h fair (PortInput name port capacity) e in
-    let limits = ring_part (is_from 1 MOST_RING capacity) (nat_le MOST_CHANNELS (length h.names)) t.limit in
+    let t = none_met (form_test h fair (PortInput name port capacity)) e in
+    let limits = ring_part (is_from 1 MOST_RING capacity) (nat_le MOST_CHANNELS (length h.names)) (t kind.Limit) in
     sound_added h name (channel.Input [] (Some (record { number = number_or port; capacity = number_or capacity }))) s (record {
-      is_name = name_part (name_test name) t.name;
-      is_new = first_of (knows h.names name) t.repeated;
+      is_name = name_part (name_test name) (t kind.Name);
+      is_new = first_of (knows h.names name) (t kind.Repeated);
       room = has_room h limits.1;
       ring = limits.0;
       none = refl;
-      port = free_port h port t.port;
+      port = free_port h port (t kind.Port);
     })
 sound_form h fair (Output name) s e =
-    let t = tests_free h fair (Output name) e in
+    let t = none_met (form_test h fair (Output name)) e in
     sound_added h name (channel.Output None) s (record {
-      is_name = name_part (name_test name) t.name;
-      is_new = first_of (knows h.names name) t.repeated;
-      room = has_room h (first_of (nat_le MOST_CHANNELS (length h.names)) t.limit);
+      is_name = name_part (name_test name) (t kind.Name);
+      is_new = first_of (knows h.names name) (t kind.Repeated);
+      room = has_room h (first_of (nat_le MOST_CHANNELS (length h.names)) (t kind.Limit));
       ring = refl;
       none = refl;
       port = λ p same. no_port_at p same;
     })
 sound_form h fair (PortOutput name port) s e =
-    let t = tests_free h fair (PortOutput name port) e in
+    let t = none_met (form_test h fair (PortOutput name port)) e in
     sound_added h name (channel.Output (Some (number_or port))) s (record {
-      is_name = name_part (name_test name) t.name;
-      is_new = first_of (knows h.names name) t.repeated;
-      room = has_room h (first_of (nat_le MOST_CHANNELS (length h.names)) t.limit);
+      is_name = name_part (name_test name) (t kind.Name);
+      is_new = first_of (knows h.names name) (t kind.Repeated);
+      room = has_room h (first_of (nat_le MOST_CHANNELS (length h.names)) (t kind.Limit));
       ring = refl;
       none = refl;
-      port = free_port h port t.port;
+      port = free_port h port (t kind.Port);
     })
 sound_form h fair (Initial name numbers) s e =
-    let t = tests_free h fair (Initial name numbers) e in
+    let t = none_met (form_test h fair (Initial name numbers)) e in
     let at = place_of h.names name in
     let more = map number_or numbers in
-    let is = size_part (is_input (slice_get h.channels at)) t.channel_kind in
-    let fits = ltb-false MOST_INITIAL_WORDS (h.words + length numbers) (first_of (nat_lt MOST_INITIAL_WORDS (h.words + length numbers)) t.limit) in
+    let is = size_part (is_input (slice_get h.channels at)) (t kind.ChannelKind) in
+    let fits = ltb-false MOST_INITIAL_WORDS (h.words + length numbers) (first_of (nat_lt MOST_INITIAL_WORDS (h.words + length numbers)) (t kind.Limit)) in
     record {
       file = s.file;
       memory = s.memory;

@@ -7,7 +7,8 @@ use Rattle.micro_isa.specs.Formed.{port_of}
 use Rattle.asm_lines.specs.declared.fault.BundleKind.{BundleKind}
 use Rattle.asm_lines.specs.declared.fault.BundleKind.TheVariants as kind
 use Rattle.asm_lines.specs.Cutting.{TextLine}
-use Rattle.asm_lines.specs.Faults.{At, first_kind, at_or}
+use Rattle.asm_lines.specs.Faults.{At, first_kind}
+use Rattle.asm_lines.specs.Verdicts.{Verdict, first_fault}
 use Rattle.micro_isa.specs.declared.limits.TheConstants.{MOST_CHANNELS, MOST_INITIAL_WORDS, MOST_FILE, MOST_MEMORY, MOST_RING, MOST_PORTS}
 use Rattle.asm_lines.specs.Numbers.{number_or, is_no_number}
 use Rattle.asm_lines.specs.Tables.{knows, place_of, misnamed, one}
@@ -45,32 +46,38 @@ abbrev pub is_input : Option Channel → Bool
 is_input (Some (channel.Input words port)) = true
 is_input _ = false
 
--- the kinds of a line in their order, where `h` is what the earlier lines say
-abbrev pub form_tests : Header → Bool → HeaderForm → List (Bool × BundleKind)
-form_tests h fair form =
-    (not fair, kind.Byte)
-    ∷ (is_unknown form, kind.Directive)
-    ∷ (is_miscounted form, kind.Operands)
-    ∷ (misnamed (one (makes form)) || misnamed (one (fills form)), kind.Name)
-    ∷ (list_any is_no_number (numbers_in form), kind.Number)
-    ∷ (is_past_limit h form, kind.Limit)
-    ∷ (list_any (λ port. is_bad_port h.channels (number_or port)) (port_in form), kind.Port)
-    ∷ (is_repeated h form, kind.Repeated)
-    ∷ (list_any (λ name. not (knows h.names name)) (one (fills form)), kind.ChannelUnknown)
-    ∷ (list_any (λ name. not (is_input (slice_get h.channels (place_of h.names name)))) (one (fills form)), kind.ChannelKind)
-    ∷ []
+-- whether a line has a fault of this kind, where `h` is what the earlier lines say
+abbrev pub form_test : Header → Bool → HeaderForm → BundleKind → Bool
+form_test h fair form kind.Byte = not fair
+form_test h fair form kind.Directive = is_unknown form
+form_test h fair form kind.Operands = is_miscounted form
+form_test h fair form kind.Name = misnamed (one (makes form)) || misnamed (one (fills form))
+form_test h fair form kind.Number = list_any is_no_number (numbers_in form)
+form_test h fair form kind.Limit = is_past_limit h form
+form_test h fair form kind.Port = list_any (λ port. is_bad_port h.channels (number_or port)) (port_in form)
+form_test h fair form kind.Repeated = is_repeated h form
+form_test h fair form kind.ChannelUnknown = list_any (λ name. not (knows h.names name)) (one (fills form))
+form_test h fair form kind.ChannelKind = list_any (λ name. not (is_input (slice_get h.channels (place_of h.names name)))) (one (fills form))
+form_test h fair form _ = false
 
 abbrev pub form_fault : Header → Bool → HeaderForm → Option BundleKind
-form_fault h fair form = first_kind (form_tests h fair form)
+form_fault h fair form = first_kind (form_test h fair form)
 
 abbrev pub line_fault : Header → TextLine → Option BundleKind
 line_fault h line = form_fault h line.fair (header_form line.words)
 
--- the first fault of lines, where `h` is what the earlier lines say
+-- on lines, where `h` is what the earlier ones say
+abbrev pub verdicts_after : Header → List TextLine → List (Verdict BundleKind)
+verdicts_after h [] = []
+verdicts_after h (line ∷ lines) = (line.number, line_fault h line) ∷ verdicts_after (with_line h line) lines
+
+-- on the lines before the first context
+abbrev pub header_verdicts : List TextLine → List (Verdict BundleKind)
+header_verdicts lines = verdicts_after no_header lines
+
 abbrev pub faults_after : Header → List TextLine → Option At
-faults_after h [] = None
-faults_after h (line ∷ lines) = at_or line.number (line_fault h line) (faults_after (with_line h line) lines)
+faults_after h lines = first_fault (verdicts_after h lines)
 
 -- the first fault of the lines before the first context
 abbrev pub header_fault : List TextLine → Option At
-header_fault lines = faults_after no_header lines
+header_fault lines = first_fault (header_verdicts lines)

@@ -1,5 +1,6 @@
 ghost use Rattle.std.specs.Prelude.{◌≡◌, ◌≤◌, None, IfOk, OnOk, IfErr};
-ghost use Rattle.asm_lines.specs.Faults.{Causes, at_or};
+ghost use Rattle.asm_lines.specs.Faults.{Causes};
+ghost use Rattle.asm_lines.specs.Verdicts.{at_or};
 ghost use Rattle.asm_lines.specs.Sections.{ahead, IsPast};
 ghost use Rattle.micro_isa.specs.declared.limits.TheConstants.{MOST_INITIAL_WORDS};
 ghost use Rattle.asm_header.specs.Headers.{with_line, header_of};

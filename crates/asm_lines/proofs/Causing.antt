@@ -5,7 +5,8 @@ use Rattle.std.specs.Result.{IsErrAnd}
 use Rattle.asm_lines.specs.declared.fault.BundleKind.{BundleKind}
 use Rattle.asm_lines.specs.declared.fault.BundleFault.{BundleFault}
 use Rattle.asm_lines.specs.declared.fault.BundleFault.TheVariants as fault
-use Rattle.asm_lines.specs.Faults.{At, at_or, or_else, Causes}
+use Rattle.asm_lines.specs.Faults.{At, Causes}
+use Rattle.asm_lines.specs.Verdicts.{at_or, or_else}
 
 pub caused : (why : BundleFault) (n : ℕ) (f : Option BundleKind) (later : Option At) → Causes why (at_or n f None) → Causes why (at_or n f later)
 caused (fault.At line k) n None later c = absurd (cc)

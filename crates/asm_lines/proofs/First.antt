@@ -1,31 +1,64 @@
 -- A line without a fault meets none of its tests.
-use Rattle.std.proofs.Common.{◌≡◌, ℕ, Bool, true, false, List, [], ◌∷◌, Option, Some, None, refl, ap, ◌∙◌, if◌then◌else◌}
+use Rattle.std.proofs.Common.{◌≡◌, ◌+◌, ◌<◌, ◌≤◌, ◌==◌, ℕ, zero, suc, Bool, true, false, not, List, [], ◌∷◌, Option, Some, None, length, map, refl, sym, ap, subst, ◌∙◌, arith, cond, inl, inr}
+use Rattle.std.specs.List.{find, list_all, range_with_len}
+use Rattle.std.proofs.lemmas.Bool.{and_parts, and_from, eqb-true, eqb-false}
+use denote.Struct.Field.{Field}
+use denote.Enum.Enum.{Sum, tag}
+use denote.Enum.Declared.{rowss}
+use denote.Enum.Bare.{tag_one}
 use Rattle.asm_lines.specs.declared.fault.BundleKind.{BundleKind}
-use Rattle.asm_lines.specs.Faults.{At, first_kind, at_or, or_else}
+use Rattle.asm_lines.specs.contracts.fault.BundleKind.{the_type}
+use Rattle.asm_lines.specs.Faults.{kinds, rank, first_kind}
 
--- no test of a table is met
-abbrev pub NoneMet : List (Bool × BundleKind) → Type 0
-NoneMet [] = Unit {0}
-NoneMet (row ∷ rows) = (row.0 ≡ false) × NoneMet rows
+-- where a search finds nothing, and where it would
 
-none_of : (b : Bool) (k : BundleKind) (later : Option BundleKind) → (if b then Some k else later) ≡ None → (b ≡ false) × (later ≡ None)
-none_of true k later e = absurd (cc)
-none_of false k later e = (refl, e)
+none_finds : {A : Type 0} (test : A → Bool) (xs : List A) → find test xs ≡ None → list_all (λ x. not (test x)) xs ≡ true
+none_finds test [] e = refl
+none_finds test (x ∷ xs) e =
+    let go : (b : Bool) → cond b (Some x) (find test xs) ≡ None → (not b ≡ true) × (find test xs ≡ None) = elim [
+      | true ↦ λ f. absurd (cc)
+      | false ↦ λ f. (refl, f)
+    ] in
+    let both = go (test x) e in
+    and_from (not (test x)) (list_all (λ x. not (test x)) xs) both.0 (none_finds test xs both.1)
 
-pub none_met : (rows : List (Bool × BundleKind)) → first_kind rows ≡ None → NoneMet rows
-none_met [] e = tt
-none_met (row ∷ rows) e = let both = none_of row.0 row.1 (first_kind rows) e in (both.0, none_met rows both.1)
+finds_none : {A : Type 0} (test : A → Bool) (xs : List A) → ((x : A) → test x ≡ false) → find test xs ≡ None
+finds_none test [] h = refl
+finds_none test (x ∷ xs) h = ap (λ b. cond b (Some x) (find test xs)) (h x) ∙ finds_none test xs h
 
-pub no_kind : (rows : List (Bool × BundleKind)) → NoneMet rows → first_kind rows ≡ None
-no_kind [] h = refl
-no_kind (row ∷ rows) h = ap (λ (b : Bool). if b then Some row.1 else first_kind rows) h.0 ∙ no_kind rows h.1
+-- each kind stands in the list of all
 
--- lines of which none has a fault
+tag_below : (Fss : List (List Field)) (x : Sum (rowss Fss)) → tag (rowss Fss) x < length Fss
+tag_below [] x = absurd x
+tag_below (Fs ∷ Fss) (inl x) = omega arith
+tag_below (Fs ∷ Fss) (inr x) = omega (arith, tag_below Fss x)
 
-pub none_at : (n : ℕ) (k : Option BundleKind) (later : Option At) → at_or n k later ≡ None → (k ≡ None) × (later ≡ None)
-none_at n None later e = (refl, e)
-none_at n (Some k) later e = absurd (cc)
+ranked : map rank kinds ≡ range_with_len 0 (length kinds)
+ranked = refl
 
-pub none_first : (f later : Option At) → or_else f later ≡ None → (f ≡ None) × (later ≡ None)
-none_first None later e = (refl, e)
-none_first (Some at) later e = absurd (cc)
+passes_among : (p : BundleKind → Bool) (k : BundleKind) (from : ℕ) (ks : List BundleKind) → map rank ks ≡ range_with_len from (length ks) → from ≤ rank k → rank k < from + length ks → list_all p ks ≡ true → p k ≡ true
+passes_among p k from [] e least most all = absurd (omega arith)
+passes_among p k from (x ∷ xs) e least most all =
+    let head : rank x ≡ from = cc in
+    let tail : map rank xs ≡ range_with_len (from + 1) (length xs) = cc in
+    let both = and_parts (p x) (list_all p xs) all in
+    let go : (b : Bool) → (rank k == from) ≡ b → p k ≡ true = elim [
+      | true ↦ λ is. subst (λ k. p k ≡ true) (tag_one the_type tt x k (head ∙ sym (eqb-true (rank k) from is))) both.0
+      | false ↦ λ is. let other = eqb-false (rank k) from is in passes_among p k (from + 1) xs tail (omega arith) (omega arith) both.1
+    ] in go (rank k == from) refl
+
+-- what all kinds of the list pass, each kind passes
+each_kind : (p : BundleKind → Bool) → list_all p kinds ≡ true → (k : BundleKind) → p k ≡ true
+each_kind p all k = passes_among p k 0 kinds ranked (omega arith) (tag_below the_type.parts (the_type.to k)) all
+
+not_true : (b : Bool) → not b ≡ true → b ≡ false
+not_true true e = sym e
+not_true false e = refl
+
+-- a line without a fault meets no kind's test
+
+pub none_met : (test : BundleKind → Bool) → first_kind test ≡ None → (k : BundleKind) → test k ≡ false
+none_met test e k = not_true (test k) (each_kind (λ k. not (test k)) (none_finds test kinds e) k)
+
+pub no_kind : (test : BundleKind → Bool) → ((k : BundleKind) → test k ≡ false) → first_kind test ≡ None
+no_kind test h = finds_none test kinds h

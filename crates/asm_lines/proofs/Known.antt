@@ -1,5 +1,5 @@
 -- Tables of names: who is known, where, and that no name stands twice.
-use Rattle.std.proofs.Common.{◌≡◌, ◌||◌, ◌&&◌, ◌++◌, ◌<◌, ℕ, Bool, true, false, not, List, [], ◌∷◌, length, refl, sym, ap, ◌∙◌, arith, fold, if◌then◌else◌, nat_eq}
+use Rattle.std.proofs.Common.{◌≡◌, ◌||◌, ◌&&◌, ◌++◌, ◌<◌, ◌+◌, ℕ, Bool, true, false, not, List, [], ◌∷◌, length, refl, sym, ap, ◌∙◌, arith, fold, cond, if◌then◌else◌, nat_eq}
 use Rattle.std.proofs.lemmas.Bool.{true≢false, lt-ltb, and_parts, and_from, or_parts, or_from, not-true, not_from_false, both_ways, false_from_ne_true, eq-eqb, eqb-true}
 use Rattle.std.proofs.lemmas.List.Folds.{list_any-append, list_all-append}
 use Rattle.std.proofs.lemmas.Slice.Eq.{bytes_eq-Decides}
@@ -55,6 +55,24 @@ knows_fold (w ∷ ws) names a e = knows_fold ws (declare names w) a (knows_more 
 -- a name that is new stands at the end
 pub declare_new : (names : Words) (name : List ℕ) → knows names name ≡ false → declare names name ≡ names ++ name ∷ []
 declare_new names name e = ap (λ b. if b then names else names ++ name ∷ []) e
+
+place_last : (p : List ℕ → Bool) (xs : Words) (y : List ℕ) → list_any p xs ≡ false → p y ≡ true → position_or_len p (xs ++ y ∷ []) ≡ position_or_len p xs
+place_last p [] y none is = rw is refl
+place_last p (x ∷ xs) y none is = let both = or_parts (p x) (list_any p xs) none in ap (λ k. cond (not (p x)) (1 + k) 0) (place_last p xs y both.1 is)
+
+first_place : (names : Words) (name : List ℕ) → knows names name ≡ true → place_of names name ≡ position_or_len (λ n. bytes_eq name n) names
+first_place names name e = rw (lt-ltb _ _ (place_below (λ n. bytes_eq name n) names e)) refl
+
+-- the place at which a name is added, or stands already
+pub declared_place : (names : Words) (name : List ℕ) → place_of (declare names name) name ≡ position_or_len (λ n. bytes_eq name n) names
+declared_place names name =
+    let go : (b : Bool) → knows names name ≡ b → place_of (declare names name) name ≡ position_or_len (λ n. bytes_eq name n) names = elim [
+      | true ↦ λ e. ap (λ b. place_of (if b then names else names ++ name ∷ []) name) e ∙ first_place names name e
+      | false ↦ λ e.
+          first_place (declare names name) name (knows_it names name)
+          ∙ ap (position_or_len (λ n. bytes_eq name n)) (declare_new names name e)
+          ∙ place_last (λ n. bytes_eq name n) names name e (same_word name)
+    ] in go (knows names name) refl
 
 -- no item stands twice
 

@@ -7,3 +7,4 @@ pub mod Maps
 pub mod Named
 pub mod Rows
 pub mod Steps
+pub mod Verdicts

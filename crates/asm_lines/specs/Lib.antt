@@ -3,3 +3,4 @@ pub mod Faults
 pub mod Numbers
 pub mod Sections
 pub mod Tables
+pub mod Verdicts

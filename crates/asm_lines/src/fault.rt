@@ -43,25 +43,28 @@ impl From<NoMemory> for BundleFault {
     }
 }
 
+/// The kinds in their order, each with the word by which it is told.
+pub const KINDS: [(BundleKind, &'static [u8]); 15] = [
+    (BundleKind::Byte, b"byte"),
+    (BundleKind::Directive, b"directive"),
+    (BundleKind::Operands, b"operands"),
+    (BundleKind::Name, b"name"),
+    (BundleKind::Number, b"number"),
+    (BundleKind::Limit, b"limit"),
+    (BundleKind::Port, b"port"),
+    (BundleKind::Repeated, b"repeated"),
+    (BundleKind::Missing, b"missing"),
+    (BundleKind::LabelTwice, b"label-twice"),
+    (BundleKind::ChannelUnknown, b"channel-unknown"),
+    (BundleKind::ChannelKind, b"channel-kind"),
+    (BundleKind::LabelUnknown, b"label-unknown"),
+    (BundleKind::Empty, b"empty"),
+    (BundleKind::FallsOff, b"falls-off"),
+];
+
 /// The word by which a kind is told.
 pub fn kind_text(kind: BundleKind) -> &'static [u8]
     ensures { result.now ≡ kind_text kind }
 {
-    match kind {
-        BundleKind::Byte => b"byte",
-        BundleKind::Directive => b"directive",
-        BundleKind::Operands => b"operands",
-        BundleKind::Name => b"name",
-        BundleKind::Number => b"number",
-        BundleKind::Limit => b"limit",
-        BundleKind::Port => b"port",
-        BundleKind::Repeated => b"repeated",
-        BundleKind::Missing => b"missing",
-        BundleKind::LabelTwice => b"label-twice",
-        BundleKind::ChannelUnknown => b"channel-unknown",
-        BundleKind::ChannelKind => b"channel-kind",
-        BundleKind::LabelUnknown => b"label-unknown",
-        BundleKind::Empty => b"empty",
-        BundleKind::FallsOff => b"falls-off",
-    }
+    KINDS[kind as usize].1
 }

@@ -29,13 +29,17 @@ pub fn knows<'a>(names: &IndexSet<&'a [u8]>, name: &'a [u8]) -> bool
     names.contains(&name)
 }
 
-/// Adds a name to a table, where it is new, and answers whether it is.
-pub fn declare<'a>(names: &mut IndexSet<&'a [u8]>, name: &'a [u8]) -> Result<bool, NoMemory>
-    ensures fresh { IfOk result (λ fresh. fresh ≡ not (knows (words_seen names.old.keys) name.now)) }
+/// Adds a name to a table, where it is new, and answers its place and whether it is new.
+pub fn declare<'a>(
+    names: &mut IndexSet<&'a [u8]>,
+    name: &'a [u8],
+) -> Result<(usize, bool), NoMemory>
+    ensures place { IfOk result (λ r. r.0 ≡ place_of (words_seen names.new.keys) name.now) }
+    ensures fresh { IfOk result (λ r. r.1 ≡ not (knows (words_seen names.old.keys) name.now)) }
     ensures names { OnOk result (words_seen names.new.keys ≡ declare (words_seen names.old.keys) name.now) }
 {
     match names.insert_full(name) {
-        Ok((_, is_new)) => Ok(is_new),
+        Ok((place, is_new)) => Ok((place, is_new)),
         Err(_) => Err(NoMemory),
     }
 }

@@ -21,7 +21,7 @@ use Rattle.asm_context.specs.Spelt as operand
 use Rattle.asm_lines.specs.Cutting.{Words, TextLine}
 use Rattle.asm_lines.specs.Numbers.{is_no_number}
 use Rattle.asm_lines.specs.Tables.{knows, declare, misnamed, one}
-use Rattle.asm_context.specs.Faults.{channels, is_stray, gives_none, takes_none, body_fault}
+use Rattle.asm_context.specs.Faults.{channels, is_misnamed, is_stray, gives_none, takes_none, body_test, body_fault}
 use Rattle.asm_context.specs.Forms.{Form, Body, label_in, labelled, body_of, does, ends, registers_in, goes_to, receives_from, sends_to, number_in}
 use Rattle.asm_context.specs.Forms as form
 use Rattle.asm_context.specs.Programs.{instr_in, on_line}
@@ -29,7 +29,9 @@ use Rattle.asm_context.specs.Said.{Said, with_body, count, targets_after}
 use Rattle.asm_print.specs.Canonical.{name_at, target_name, instruction_row}
 use Rattle.asm_print.proofs.Plain.{row_words}
 use Rattle.asm_print.specs.Typed.{OfAny}
-use Rattle.asm_context.proofs.Free.{no_fault}
+use Rattle.asm_lines.specs.declared.fault.BundleKind.{BundleKind}
+use Rattle.asm_lines.specs.declared.fault.BundleKind.TheVariants as kind
+use Rattle.asm_lines.proofs.First.{no_kind}
 use Rattle.asm_print.proofs.InTurn.{InTurn, grown, declare_all}
 use Rattle.asm_print.proofs.InstructionAgain.{form_for, body_for, body_again, numbers_of, shape, received, sent, number, well_named, reached, Channelled, met, giver, taker, Spelt, instr_again}
 use Rattle.asm_print.proofs.Tables.{fresh, declare_new}
@@ -73,30 +75,29 @@ few_now p k at f r s =
     or_from (nat_lt MOST_REGISTERS (length (take k p.registers))) (nat_lt MOST_INSTRUCTIONS at)
     (le-ltb MOST_REGISTERS (length (take k p.registers)) (omega (arith, length-take-le k p.registers f))) (le-ltb MOST_INSTRUCTIONS at s)
 
+abbrev label_form : Label → Body
+label_form l = record { label = Some l.name; form = form.Blank }
+
+label_free : (chs : Words) (kinds : List Channel) (p : Program) (k at : ℕ) (before : List Label) (l : Label) → Placed p k at → name_test l.name ≡ true → knows (map (λ l. l.name) before) l.name ≡ false
+    → (x : BundleKind) → body_test (channels chs kinds) (list_any (knows (stands p before k at).labels) (one (Some l.name))) (with_body (stands p before k at) (label_form l)) (final p) true (label_form l) x ≡ false
+label_free chs kinds p k at before l placed named new kind.Name = ap (λ (x : Bool). (not x || false) || (false || (false || (false || false)))) named
+label_free chs kinds p k at before l placed named new kind.Limit = few_now p k (at + 0) placed.few placed.registers (omega (arith, placed.within, placed.short))
+label_free chs kinds p k at before l placed named new kind.LabelTwice = ap (λ (x : Bool). x || false) new
+label_free chs kinds p k at before l placed named new kind.FallsOff = ap (λ (x : Bool). x && true) (ne_eqb (at + 0) (length p.code) (λ (e : at + 0 ≡ length p.code). omega (arith, placed.within)))
+label_free chs kinds p k at before l placed named new _ = refl
+
 pub label_walk : (chs : Words) (kinds : List Channel) (p : Program) (n k at : ℕ) (before : List Label) (l : Label) (later : List Label)
     → Placed p k at → name_test l.name ≡ true → formed.is_distinct bytes_eq (map (λ l. l.name) p.labels) ≡ true → before ++ l ∷ later ≡ p.labels → l.target ≡ at
     → Walks (channels chs kinds) (final p) (stands p before k at) (line n ((l.name ++ codes ":") ∷ []) ∷ []) (stands p (before ++ l ∷ []) k at) []
 label_walk chs kinds p n k at before l later placed named distinct parts here =
     let s : Said = stands p before k at in
-    let b : Body = record { label = Some l.name; form = form.Blank } in
+    let b = label_form l in
     let new : knows (map (λ (l : Label). l.name) before) l.name ≡ false =
     fresh (map (λ (l : Label). l.name) before) l.name (map (λ (l : Label). l.name) later)
     (ap (formed.is_distinct bytes_eq) (sym (map-append (λ (l : Label). l.name) before (l ∷ later)) ∙ ap (map (λ (l : Label). l.name)) parts) ∙ distinct) in
     let twice = list_any (knows s.labels) (one b.label) in
     let free : body_fault (channels chs kinds) twice (with_body s b) (final p) true b ≡ None =
-    no_fault (channels chs kinds) twice (with_body s b) (final p) true b (record {
-      byte = refl;
-      directive = refl;
-      operands = refl;
-      name = ap (λ (x : Bool). (not x || false) || (false || (false || (false || false)))) named;
-      number = refl;
-      limit = few_now p k (at + 0) placed.few placed.registers (omega (arith, placed.within, placed.short));
-      label_twice = ap (λ (x : Bool). x || false) new;
-      channel_unknown = refl;
-      channel_kind = refl;
-      label_unknown = refl;
-      falls_off = ap (λ (x : Bool). x && true) (ne_eqb (at + 0) (length p.code) (λ (e : at + 0 ≡ length p.code). omega (arith, placed.within)));
-    }) in
+    no_kind (body_test (channels chs kinds) twice (with_body s b) (final p) true b) (label_free chs kinds p k at before l placed named new) in
     one_walk (channels chs kinds) (final p) s (stands p (before ++ l ∷ []) k at) (line n ((l.name ++ codes ":") ∷ [])) []
     (ap (λ (b : Body). body_fault (channels chs kinds) (list_any (knows s.labels) (one b.label)) (with_body s b) (final p) true b) (label_body l.name) ∙ free)
     (ap (with_body s) (label_body l.name)
@@ -110,19 +111,13 @@ label_walk chs kinds p n k at before l later placed named distinct parts here =
 
 -- ---- instructions
 
-receives_fit : (kinds : List Channel) (x : Extra ℕ ℕ) → formed.fits_extra kinds x ≡ true → OfAny (operand.received x) (λ k. formed.gives_words (slice_get kinds k) ≡ true)
-receives_fit kinds Nothing e = tt
-receives_fit kinds (Number n) e = tt
-receives_fit kinds (Target t) e = tt
-receives_fit kinds (Receive k) e = e
-receives_fit kinds (Send k) e = tt
-
-sends_fit : (kinds : List Channel) (x : Extra ℕ ℕ) → formed.fits_extra kinds x ≡ true → OfAny (operand.sent x) (λ k. formed.takes_words (slice_get kinds k) ≡ true)
-sends_fit kinds Nothing e = tt
-sends_fit kinds (Number n) e = tt
-sends_fit kinds (Target t) e = tt
-sends_fit kinds (Receive k) e = tt
-sends_fit kinds (Send k) e = e
+-- what an instruction that fits the channels receives from, and sends to
+channels_fit : (kinds : List Channel) (x : Extra ℕ ℕ) → formed.fits_extra kinds x ≡ true → OfAny (operand.received x) (λ k. formed.gives_words (slice_get kinds k) ≡ true) × OfAny (operand.sent x) (λ k. formed.takes_words (slice_get kinds k) ≡ true)
+channels_fit kinds Nothing e = (tt, tt)
+channels_fit kinds (Number n) e = (tt, tt)
+channels_fit kinds (Target t) e = (tt, tt)
+channels_fit kinds (Receive k) e = (e, tt)
+channels_fit kinds (Send k) e = (tt, e)
 
 module _ (chs : Words) (kinds : List Channel) (p : Program) where
   number_said : (o : Option ℕ) → OfAny o (λ n. n < 2 ^ 32) → list_any is_no_number (one (option_map decimal o)) ≡ false
@@ -170,6 +165,59 @@ module _ (chs : Words) (kinds : List Channel) (p : Program) where
       go true e = ap (λ (b : Bool). b && not never) e ∙ ap (λ (b : Bool). not b) (h (eqb-true (at + 1) len e))
       go false e = ap (λ (b : Bool). b && not never) e
 
+  -- the registers that an instruction brings
+  brings : (k at : ℕ) (i : Instr VReg) → Placed p k at → Spelt chs kinds p (grown k (numbers_of i)) i → InTurn k (numbers_of i) → formed.all_below (length p.registers) (numbers_of i) ≡ true
+      → fold declare (take k p.registers) (registers_in (form_for chs p i)) ≡ take (grown k (numbers_of i)) p.registers
+  brings k at i placed spelt turn within =
+      ap (fold declare (take k p.registers)) (shape chs p i).registers ∙ declare_all p.registers k (numbers_of i) spelt.distinct placed.few within turn
+
+  well_spelt : (k : ℕ) (i : Instr VReg) → Spelt chs kinds p k i → formed.all_below (length p.registers) (numbers_of i) ≡ true → list_all name_test p.registers ≡ true → is_misnamed (body_for chs p i) ≡ false
+  well_spelt k i spelt within named =
+      let f : Form = form_for chs p i in
+      let sh = shape chs p i in
+      let r = (channels_fit kinds (operands_of i).extra spelt.fits).0 in
+      let t = (channels_fit kinds (operands_of i).extra spelt.fits).1 in
+      or_from (misnamed (registers_in f)) _ (ap misnamed sh.registers ∙ well_named p.registers (numbers_of i) named within)
+      (or_from (misnamed (one (goes_to f))) _ (ap (λ o. misnamed (one o)) sh.goes ∙ target_named (formed.target_of i) spelt.labels spelt.label_names spelt.labelled)
+      (or_from (misnamed (one (receives_from f))) (misnamed (one (sends_to f))) (ap (λ o. misnamed (one o)) sh.receives ∙ channel_named (received i) spelt.channels (givers (received i) r))
+      (ap (λ o. misnamed (one o)) sh.sends ∙ channel_named (sent i) spelt.channels (takers (sent i) t))))
+
+  -- where an instruction may stand
+  record Stands (k at : ℕ) (i : Instr VReg) : Type 0 where
+    placed : Placed p k at
+    spelt : Spelt chs kinds p (grown k (numbers_of i)) i
+    turn : InTurn k (numbers_of i)
+    within : formed.all_below (length p.registers) (numbers_of i) ≡ true
+    named : list_all name_test p.registers ≡ true
+    ends : at + 1 ≡ length p.code → formed.never_falls i ≡ true
+
+  instruction_free : (k at : ℕ) (before : List Label) (i : Instr VReg) → Stands k at i → (x : BundleKind) → body_test (channels chs kinds) false (with_body (stands p before k at) (body_for chs p i)) (final p) true (body_for chs p i) x ≡ false
+  instruction_free k at before i s kind.Directive = (shape chs p i).unknown
+  instruction_free k at before i s kind.Operands = (shape chs p i).miscounted
+  instruction_free k at before i s kind.Name = well_spelt (grown k (numbers_of i)) i s.spelt s.within s.named
+  instruction_free k at before i s kind.Number = ap (λ o. list_any is_no_number (one o)) (shape chs p i).number ∙ number_said (number i) s.spelt.number
+  instruction_free k at before i s kind.Limit =
+      ap (λ (rs : Words). nat_lt MOST_REGISTERS (length rs) || nat_lt MOST_INSTRUCTIONS (at + count (does (form_for chs p i)))) (brings k at i s.placed s.spelt s.turn s.within)
+      ∙ ap (λ d. nat_lt MOST_REGISTERS (length (take (grown k (numbers_of i)) p.registers)) || nat_lt MOST_INSTRUCTIONS (at + count d)) (shape chs p i).does
+      ∙ few_now p (grown k (numbers_of i)) (at + 1) s.spelt.few s.placed.registers (omega (arith, s.placed.within, s.placed.short))
+  instruction_free k at before i s kind.ChannelUnknown =
+      let f : Form = form_for chs p i in
+      or_from (is_stray (channels chs kinds) (receives_from f)) (is_stray (channels chs kinds) (sends_to f))
+      (ap (is_stray (channels chs kinds)) (shape chs p i).receives ∙ channel_known (received i) s.spelt.channels (givers (received i) ((channels_fit kinds (operands_of i).extra s.spelt.fits).0)))
+      (ap (is_stray (channels chs kinds)) (shape chs p i).sends ∙ channel_known (sent i) s.spelt.channels (takers (sent i) ((channels_fit kinds (operands_of i).extra s.spelt.fits).1)))
+  instruction_free k at before i s kind.ChannelKind =
+      let f : Form = form_for chs p i in
+      or_from (gives_none (channels chs kinds) (receives_from f)) (takes_none (channels chs kinds) (sends_to f))
+      (ap (gives_none (channels chs kinds)) (shape chs p i).receives ∙ gives_some (received i) s.spelt.channels ((channels_fit kinds (operands_of i).extra s.spelt.fits).0))
+      (ap (takes_none (channels chs kinds)) (shape chs p i).sends ∙ takes_some (sent i) s.spelt.channels ((channels_fit kinds (operands_of i).extra s.spelt.fits).1))
+  instruction_free k at before i s kind.LabelUnknown =
+      ap (λ o. list_any (λ label. not (knows (final p).labels label)) (one o)) (shape chs p i).goes ∙ target_known (formed.target_of i) s.spelt.labels s.spelt.label_names s.spelt.labelled
+  instruction_free k at before i s kind.FallsOff =
+      ap (λ d. nat_eq (at + count d) (length p.code) && (if d then not (form.ends (form_for chs p i)) else false)) (shape chs p i).does
+      ∙ ap (λ e. nat_eq (at + 1) (length p.code) && not e) (shape chs p i).ends
+      ∙ never_loose at (length p.code) (formed.never_falls i) s.ends
+  instruction_free k at before i s _ = refl
+
   pub instruction_walk : (n k at : ℕ) (before : List Label) (i : Instr VReg)
       → Placed p k at → Spelt chs kinds p (grown k (numbers_of i)) i → InTurn k (numbers_of i) → formed.all_below (length p.registers) (numbers_of i) ≡ true → list_all name_test p.registers ≡ true
       → (at + 1 ≡ length p.code → formed.never_falls i ≡ true)
@@ -179,41 +227,10 @@ module _ (chs : Words) (kinds : List Channel) (p : Program) where
       let b : Body = body_for chs p i in
       let f : Form = form_for chs p i in
       let sh = shape chs p i in
-      let r = receives_fit kinds (operands_of i).extra spelt.fits in
-      let t = sends_fit kinds (operands_of i).extra spelt.fits in
-      let grows : fold declare (take k p.registers) (registers_in f) ≡ take (grown k (numbers_of i)) p.registers =
-      ap (fold declare (take k p.registers)) sh.registers ∙ declare_all p.registers k (numbers_of i) spelt.distinct placed.few within turn in
-      let names : (misnamed (registers_in f) || (misnamed (one (goes_to f)) || (misnamed (one (receives_from f)) || misnamed (one (sends_to f))))) ≡ false =
-      or_from (misnamed (registers_in f)) _ (ap misnamed sh.registers ∙ well_named p.registers (numbers_of i) named within)
-      (or_from (misnamed (one (goes_to f))) _ (ap (λ o. misnamed (one o)) sh.goes ∙ target_named (formed.target_of i) spelt.labels spelt.label_names spelt.labelled)
-      (or_from (misnamed (one (receives_from f))) (misnamed (one (sends_to f))) (ap (λ o. misnamed (one o)) sh.receives ∙ channel_named (received i) spelt.channels (givers (received i) r))
-      (ap (λ o. misnamed (one o)) sh.sends ∙ channel_named (sent i) spelt.channels (takers (sent i) t)))) in
+      let grows = brings k at i placed spelt turn within in
+      let here : Stands k at i = record { placed = placed; spelt = spelt; turn = turn; within = within; named = named; ends = ends } in
       let free : body_fault (channels chs kinds) false (with_body s b) (final p) true b ≡ None =
-      no_fault (channels chs kinds) false (with_body s b) (final p) true b (record {
-        byte = refl;
-        directive = sh.unknown;
-        operands = sh.miscounted;
-        name = names;
-        number = ap (λ o. list_any is_no_number (one o)) sh.number ∙ number_said (number i) spelt.number;
-        limit =
-            ap (λ (rs : Words). nat_lt MOST_REGISTERS (length rs) || nat_lt MOST_INSTRUCTIONS (at + count (does f))) grows
-            ∙ ap (λ d. nat_lt MOST_REGISTERS (length (take (grown k (numbers_of i)) p.registers)) || nat_lt MOST_INSTRUCTIONS (at + count d)) sh.does
-            ∙ few_now p (grown k (numbers_of i)) (at + 1) spelt.few placed.registers (omega (arith, placed.within, placed.short));
-        label_twice = refl;
-        channel_unknown =
-            or_from (is_stray (channels chs kinds) (receives_from f)) (is_stray (channels chs kinds) (sends_to f))
-            (ap (is_stray (channels chs kinds)) sh.receives ∙ channel_known (received i) spelt.channels (givers (received i) r))
-            (ap (is_stray (channels chs kinds)) sh.sends ∙ channel_known (sent i) spelt.channels (takers (sent i) t));
-        channel_kind =
-            or_from (gives_none (channels chs kinds) (receives_from f)) (takes_none (channels chs kinds) (sends_to f))
-            (ap (gives_none (channels chs kinds)) sh.receives ∙ gives_some (received i) spelt.channels r)
-            (ap (takes_none (channels chs kinds)) sh.sends ∙ takes_some (sent i) spelt.channels t);
-        label_unknown = ap (λ o. list_any (λ label. not (knows (final p).labels label)) (one o)) sh.goes ∙ target_known (formed.target_of i) spelt.labels spelt.label_names spelt.labelled;
-        falls_off =
-            ap (λ d. nat_eq (at + count d) (length p.code) && (if d then not (form.ends f) else false)) sh.does
-            ∙ ap (λ e. nat_eq (at + 1) (length p.code) && not e) sh.ends
-            ∙ never_loose at (length p.code) (formed.never_falls i) ends;
-      }) in
+      no_kind (body_test (channels chs kinds) false (with_body s b) (final p) true b) (instruction_free k at before i here) in
       one_walk (channels chs kinds) (final p) s (stands p before (grown k (numbers_of i)) (at + 1)) (line n (row_words (instruction_row chs p i))) (i ∷ [])
       (ap (λ (b : Body). body_fault (channels chs kinds) (list_any (knows s.labels) (one b.label)) (with_body s b) (final p) true b) (body_again chs p i) ∙ free)
       (ap (with_body s) (body_again chs p i)

@@ -20,7 +20,10 @@ use Rattle.asm_header.specs.Headers.{Header, no_header}
 use Rattle.asm_print.specs.Canonical.{words_rows, input_row, channel_rows, channels_rows, header_rows}
 use Rattle.asm_print.proofs.Plain.{row_words, lines_with}
 use Rattle.asm_print.specs.Typed.{WordsFit, IsTyped}
-use Rattle.asm_header.proofs.Free.{no_fault}
+use Rattle.asm_lines.specs.declared.fault.BundleKind.{BundleKind}
+use Rattle.asm_lines.specs.declared.fault.BundleKind.TheVariants as kind
+use Rattle.asm_lines.proofs.First.{no_kind}
+use Rattle.asm_header.specs.Faults.{form_test}
 use Rattle.asm_print.proofs.Lines.{lines-append}
 use Rattle.asm_print.proofs.Tables.{fresh, distinct_front}
 use Rattle.asm_print.proofs.Words.{number_is}
@@ -132,41 +135,29 @@ module _ (file memory : ℕ) where
 
 -- ---- the whole header
 
-file_line : (n file : ℕ) → 1 ≤ file → file ≤ MOST_FILE → Leads no_header (line n (codes "file" ∷ decimal file ∷ []) ∷ []) (record { file = Some file; memory = None; names = []; channels = []; words = 0 })
+-- a header with a size of the file alone
+abbrev sized : ℕ → Header
+sized file = record { file = Some file; memory = None; names = []; channels = []; words = 0 }
+
+file_free : (file : ℕ) → file < 2 ^ 32 → 1 ≤ file → file ≤ MOST_FILE → (k : BundleKind) → form_test no_header true (form.File (decimal file)) k ≡ false
+file_free file s some few kind.Number = one_number file s
+file_free file s some few kind.Limit = ap (λ (b : Bool). b || (false || false)) (within 1 MOST_FILE file s some few)
+file_free file s some few _ = refl
+
+file_line : (n file : ℕ) → 1 ≤ file → file ≤ MOST_FILE → Leads no_header (line n (codes "file" ∷ decimal file ∷ []) ∷ []) (sized file)
 file_line n file some few =
     let s : file < 2 ^ 32 = omega arith in
-    one_line _ _ _
-    (no_fault no_header true (form.File (decimal file)) (record {
-      byte = refl;
-      directive = refl;
-      operands = refl;
-      name = refl;
-      number = one_number file s;
-      limit = ap (λ (b : Bool). b || (false || false)) (within 1 MOST_FILE file s some few);
-      port = refl;
-      repeated = refl;
-      channel_unknown = refl;
-      channel_kind = refl;
-    }))
-    (ap (λ (k : ℕ). record { file = Some k; memory = None; names = []; channels = []; words = 0 }) (number_is file s))
+    one_line _ _ _ (no_kind (form_test no_header true (form.File (decimal file))) (file_free file s some few)) (ap sized (number_is file s))
 
-memory_line : (n file memory : ℕ) → memory ≤ MOST_MEMORY → Leads (record { file = Some file; memory = None; names = []; channels = []; words = 0 }) (line n (codes "memory" ∷ decimal memory ∷ []) ∷ []) (so_far file memory [] [] 0)
+memory_free : (file memory : ℕ) → memory < 2 ^ 32 → memory ≤ MOST_MEMORY → (k : BundleKind) → form_test (sized file) true (form.Memory (decimal memory)) k ≡ false
+memory_free file memory s few kind.Number = one_number memory s
+memory_free file memory s few kind.Limit = ap (λ (b : Bool). b || (false || false)) (within 0 MOST_MEMORY memory s (omega arith) few)
+memory_free file memory s few _ = refl
+
+memory_line : (n file memory : ℕ) → memory ≤ MOST_MEMORY → Leads (sized file) (line n (codes "memory" ∷ decimal memory ∷ []) ∷ []) (so_far file memory [] [] 0)
 memory_line n file memory few =
     let s : memory < 2 ^ 32 = omega arith in
-    one_line _ _ _
-    (no_fault (record { file = Some file; memory = None; names = []; channels = []; words = 0 }) true (form.Memory (decimal memory)) (record {
-      byte = refl;
-      directive = refl;
-      operands = refl;
-      name = refl;
-      number = one_number memory s;
-      limit = ap (λ (b : Bool). b || (false || false)) (within 0 MOST_MEMORY memory s (omega arith) few);
-      port = refl;
-      repeated = refl;
-      channel_unknown = refl;
-      channel_kind = refl;
-    }))
-    (ap (λ (k : ℕ). so_far file k [] [] 0) (number_is memory s))
+    one_line _ _ _ (no_kind (form_test (sized file) true (form.Memory (decimal memory))) (memory_free file memory s few)) (ap (λ (k : ℕ). so_far file k [] [] 0) (number_is memory s))
 
 pub header_leads : (b : Bundle) → IsFormedBundle b → IsTyped b
     → Leads no_header (lines_with 1 (header_rows b)) (so_far b.file b.setting.memory b.names b.setting.channels (0 + sum (map initial_count b.setting.channels)))

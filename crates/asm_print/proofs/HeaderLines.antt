@@ -14,13 +14,15 @@ use Rattle.micro_isa.specs.Names.{name_test}
 use Rattle.micro_isa.specs.Formed.{is_distinct, port_of, is_ring_size}
 use Rattle.asm_lines.specs.Cutting.{Words, TextLine}
 use Rattle.asm_lines.specs.declared.fault.BundleKind.{BundleKind}
-use Rattle.asm_lines.specs.Faults.{At, at_or, or_else}
+use Rattle.asm_lines.specs.declared.fault.BundleKind.TheVariants as kind
+use Rattle.asm_lines.specs.Verdicts.{at_or, first_fault}
 use Rattle.asm_lines.specs.Numbers.{number_or, is_no_number}
 use Rattle.asm_lines.specs.Tables.{knows, place_of, declare, misnamed}
 use Rattle.asm_header.specs.Forms as form
 use Rattle.asm_header.specs.Headers.{Header, with_line, filled, replaced, filled_at}
-use Rattle.asm_header.specs.Faults.{is_from, is_bad_port, is_input, line_fault, faults_after}
-use Rattle.asm_header.proofs.Free.{no_fault}
+use Rattle.asm_header.specs.Faults.{is_from, is_bad_port, is_input, form_test, line_fault, verdicts_after, faults_after}
+use Rattle.asm_lines.proofs.First.{no_kind}
+use Rattle.asm_lines.proofs.Verdicts.{free_in}
 use Rattle.asm_print.proofs.Tables.{fresh_number, declare_new, place_is, known_at}
 use Rattle.asm_print.proofs.Words.{number_is, number_there}
 
@@ -44,19 +46,13 @@ then_line h g k l ls f e rest = record {
 pub one_line : (h g : Header) (l : TextLine) → line_fault h l ≡ None → with_line h l ≡ g → Leads h (l ∷ []) g
 one_line h g l f e = then_line h g g l [] f e (no_line g)
 
-at_or_else : (n : ℕ) (o : Option BundleKind) (a b : Option At) → at_or n o (or_else a b) ≡ or_else (at_or n o a) b
-at_or_else n None a b = refl
-at_or_else n (Some k) a b = refl
-
-faults-append : (h : Header) (xs ys : List TextLine) → faults_after h (xs ++ ys) ≡ or_else (faults_after h xs) (faults_after (fold with_line h xs) ys)
-faults-append h [] ys = refl
-faults-append h (x ∷ xs) ys =
-    ap (at_or x.number (line_fault h x)) (faults-append (with_line h x) xs ys)
-    ∙ at_or_else x.number (line_fault h x) (faults_after (with_line h x) xs) (faults_after (fold with_line (with_line h x) xs) ys)
+verdicts-append : (h : Header) (xs ys : List TextLine) → verdicts_after h (xs ++ ys) ≡ verdicts_after h xs ++ verdicts_after (fold with_line h xs) ys
+verdicts-append h [] ys = refl
+verdicts-append h (x ∷ xs) ys = ap (λ vs. (x.number, line_fault h x) ∷ vs) (verdicts-append (with_line h x) xs ys)
 
 pub then_lines : (h g k : Header) (xs ys : List TextLine) → Leads h xs g → Leads g ys k → Leads h (xs ++ ys) k
 then_lines h g k xs ys a b = record {
-  free = faults-append h xs ys ∙ ap (λ o. or_else o (faults_after (fold with_line h xs) ys)) a.free ∙ ap (λ x. faults_after x ys) a.said ∙ b.free;
+  free = ap first_fault (verdicts-append h xs ys) ∙ free_in (verdicts_after h xs) (verdicts_after (fold with_line h xs) ys) a.free ∙ ap (λ x. faults_after x ys) a.said ∙ b.free;
   said = fold-append with_line h xs ys ∙ ap (λ x. fold with_line x ys) a.said ∙ b.said;
 }
 
@@ -81,6 +77,12 @@ within least most n s l m =
 
 ring_bounds : (n : ℕ) → is_ring_size n ≡ true → (1 ≤ n) × (n ≤ MOST_RING)
 ring_bounds n e = let a = and_parts (nat_le 1 n) (nat_le n MOST_RING) e in (leb-true 1 n a.0, leb-true n MOST_RING a.1)
+
+ring_small : (n : ℕ) → is_ring_size n ≡ true → n < 2 ^ 32
+ring_small n e = let a = ring_bounds n e in omega arith
+
+port_small : (n : ℕ) → n < MOST_PORTS → n < 2 ^ 32
+port_small n h = omega arith
 
 -- a ring's capacity that is in range, and one channel more
 ring_fits : (n k : ℕ) → is_ring_size n ≡ true → k < MOST_CHANNELS → (false || ((not (is_from 1 MOST_RING (decimal n)) || false) || (nat_le MOST_CHANNELS k || false))) ≡ false
@@ -120,101 +122,72 @@ module _ (file memory n words : ℕ) (names : Words) (channels : List Channel) (
   named_so : (c : Channel) → ◌≡◌ {A = Header} (so_far file memory (declare names name) (channels ++ c ∷ []) words) (so_far file memory (names ++ name ∷ []) (channels ++ c ∷ []) words)
   named_so c = ap (λ (ns : Words). so_far file memory ns (channels ++ c ∷ []) words) (declare_new names name room.new)
 
+  named_here : (misnamed (name ∷ []) || misnamed []) ≡ false
+  named_here = named_one name room.named
+
+  new_here : list_any (knows names) (name ∷ []) ≡ false
+  new_here = new_name names name room.new
+
+  inner_free : (size : ℕ) → is_ring_size size ≡ true → (k : BundleKind) → form_test (so_far file memory names channels words) true (form.Inner name (decimal size)) k ≡ false
+  inner_free size e kind.Name = named_here
+  inner_free size e kind.Number = one_number size (ring_small size e)
+  inner_free size e kind.Limit = ring_fits size (length names) e room.few
+  inner_free size e kind.Repeated = new_here
+  inner_free size e _ = refl
+
   pub inner_line : (size : ℕ) → is_ring_size size ≡ true → Leads (so_far file memory names channels words) (line n (codes "inner" ∷ name ∷ decimal size ∷ []) ∷ []) (so_far file memory (names ++ name ∷ []) (channels ++ channel.Inner size ∷ []) words)
   inner_line size e =
-      let a = ring_bounds size e in
-      let s : size < 2 ^ 32 = omega arith in
-      one_line _ _ _
-      (no_fault (so_far file memory names channels words) true (form.Inner name (decimal size)) (record {
-        byte = refl;
-        directive = refl;
-        operands = refl;
-        name = named_one name room.named;
-        number = one_number size s;
-        limit = ring_fits size (length names) e room.few;
-        port = refl;
-        repeated = new_name names name room.new;
-        channel_unknown = refl;
-        channel_kind = refl;
-      }))
-      (ap (λ (k : ℕ). so_far file memory (declare names name) (channels ++ channel.Inner k ∷ []) words) (number_is size s) ∙ named_so (channel.Inner size))
+      one_line _ _ _ (no_kind (form_test (so_far file memory names channels words) true (form.Inner name (decimal size))) (inner_free size e))
+      (ap (λ (k : ℕ). so_far file memory (declare names name) (channels ++ channel.Inner k ∷ []) words) (number_is size (ring_small size e)) ∙ named_so (channel.Inner size))
+
+  input_free : (k : BundleKind) → form_test (so_far file memory names channels words) true (form.Input name) k ≡ false
+  input_free kind.Name = named_here
+  input_free kind.Limit = no_ring_fits (length names) room.few
+  input_free kind.Repeated = new_here
+  input_free _ = refl
 
   pub input_line : Leads (so_far file memory names channels words) (line n (codes "input" ∷ name ∷ []) ∷ []) (so_far file memory (names ++ name ∷ []) (channels ++ channel.Input [] None ∷ []) words)
-  input_line =
-      one_line _ _ _
-      (no_fault (so_far file memory names channels words) true (form.Input name) (record {
-        byte = refl;
-        directive = refl;
-        operands = refl;
-        name = named_one name room.named;
-        number = refl;
-        limit = no_ring_fits (length names) room.few;
-        port = refl;
-        repeated = new_name names name room.new;
-        channel_unknown = refl;
-        channel_kind = refl;
-      }))
-      (named_so (channel.Input [] None))
+  input_line = one_line _ _ _ (no_kind (form_test (so_far file memory names channels words) true (form.Input name)) input_free) (named_so (channel.Input [] None))
+
+  port_input_free : (port : PortUse) (later : List ℕ) → is_ring_size port.capacity ≡ true → port.number < MOST_PORTS → is_distinct nat_eq (filter_map port_of channels ++ port.number ∷ later) ≡ true
+      → (k : BundleKind) → form_test (so_far file memory names channels words) true (form.PortInput name (decimal port.number) (decimal port.capacity)) k ≡ false
+  port_input_free port later e h d kind.Name = named_here
+  port_input_free port later e h d kind.Number = two_numbers port.number port.capacity (port_small port.number h) (ring_small port.capacity e)
+  port_input_free port later e h d kind.Limit = ring_fits port.capacity (length names) e room.few
+  port_input_free port later e h d kind.Port = port_fits channels port.number later h d
+  port_input_free port later e h d kind.Repeated = new_here
+  port_input_free port later e h d _ = refl
 
   pub port_input_line : (port : PortUse) (later : List ℕ) → is_ring_size port.capacity ≡ true → port.number < MOST_PORTS → is_distinct nat_eq (filter_map port_of channels ++ port.number ∷ later) ≡ true
       → Leads (so_far file memory names channels words) (line n (codes "input" ∷ name ∷ codes "port" ∷ decimal port.number ∷ decimal port.capacity ∷ []) ∷ []) (so_far file memory (names ++ name ∷ []) (channels ++ channel.Input [] (Some port) ∷ []) words)
   port_input_line port later e h d =
-      let a = ring_bounds port.capacity e in
-      let s : port.capacity < 2 ^ 32 = omega arith in
-      let t : port.number < 2 ^ 32 = omega arith in
-      one_line _ _ _
-      (no_fault (so_far file memory names channels words) true (form.PortInput name (decimal port.number) (decimal port.capacity)) (record {
-        byte = refl;
-        directive = refl;
-        operands = refl;
-        name = named_one name room.named;
-        number = two_numbers port.number port.capacity t s;
-        limit = ring_fits port.capacity (length names) e room.few;
-        port = port_fits channels port.number later h d;
-        repeated = new_name names name room.new;
-        channel_unknown = refl;
-        channel_kind = refl;
-      }))
-      (ap (λ (k : ℕ). so_far file memory (declare names name) (channels ++ channel.Input [] (Some (record { number = k; capacity = number_or (decimal port.capacity) })) ∷ []) words) (number_is port.number t)
-      ∙ ap (λ (k : ℕ). so_far file memory (declare names name) (channels ++ channel.Input [] (Some (record { number = port.number; capacity = k })) ∷ []) words) (number_is port.capacity s)
+      one_line _ _ _ (no_kind (form_test (so_far file memory names channels words) true (form.PortInput name (decimal port.number) (decimal port.capacity))) (port_input_free port later e h d))
+      (ap (λ (k : ℕ). so_far file memory (declare names name) (channels ++ channel.Input [] (Some (record { number = k; capacity = number_or (decimal port.capacity) })) ∷ []) words) (number_is port.number (port_small port.number h))
+      ∙ ap (λ (k : ℕ). so_far file memory (declare names name) (channels ++ channel.Input [] (Some (record { number = port.number; capacity = k })) ∷ []) words) (number_is port.capacity (ring_small port.capacity e))
       ∙ named_so (channel.Input [] (Some port)))
 
+  output_free : (k : BundleKind) → form_test (so_far file memory names channels words) true (form.Output name) k ≡ false
+  output_free kind.Name = named_here
+  output_free kind.Limit = no_ring_fits (length names) room.few
+  output_free kind.Repeated = new_here
+  output_free _ = refl
+
   pub output_line : Leads (so_far file memory names channels words) (line n (codes "output" ∷ name ∷ []) ∷ []) (so_far file memory (names ++ name ∷ []) (channels ++ channel.Output None ∷ []) words)
-  output_line =
-      one_line _ _ _
-      (no_fault (so_far file memory names channels words) true (form.Output name) (record {
-        byte = refl;
-        directive = refl;
-        operands = refl;
-        name = named_one name room.named;
-        number = refl;
-        limit = no_ring_fits (length names) room.few;
-        port = refl;
-        repeated = new_name names name room.new;
-        channel_unknown = refl;
-        channel_kind = refl;
-      }))
-      (named_so (channel.Output None))
+  output_line = one_line _ _ _ (no_kind (form_test (so_far file memory names channels words) true (form.Output name)) output_free) (named_so (channel.Output None))
+
+  port_output_free : (port : ℕ) (later : List ℕ) → port < MOST_PORTS → is_distinct nat_eq (filter_map port_of channels ++ port ∷ later) ≡ true → (k : BundleKind) → form_test (so_far file memory names channels words) true (form.PortOutput name (decimal port)) k ≡ false
+  port_output_free port later h d kind.Name = named_here
+  port_output_free port later h d kind.Number = one_number port (port_small port h)
+  port_output_free port later h d kind.Limit = no_ring_fits (length names) room.few
+  port_output_free port later h d kind.Port = port_fits channels port later h d
+  port_output_free port later h d kind.Repeated = new_here
+  port_output_free port later h d _ = refl
 
   pub port_output_line : (port : ℕ) (later : List ℕ) → port < MOST_PORTS → is_distinct nat_eq (filter_map port_of channels ++ port ∷ later) ≡ true
       → Leads (so_far file memory names channels words) (line n (codes "output" ∷ name ∷ codes "port" ∷ decimal port ∷ []) ∷ []) (so_far file memory (names ++ name ∷ []) (channels ++ channel.Output (Some port) ∷ []) words)
   port_output_line port later h d =
-      let t : port < 2 ^ 32 = omega arith in
-      one_line _ _ _
-      (no_fault (so_far file memory names channels words) true (form.PortOutput name (decimal port)) (record {
-        byte = refl;
-        directive = refl;
-        operands = refl;
-        name = named_one name room.named;
-        number = one_number port t;
-        limit = no_ring_fits (length names) room.few;
-        port = port_fits channels port later h d;
-        repeated = new_name names name room.new;
-        channel_unknown = refl;
-        channel_kind = refl;
-      }))
-      (ap (λ (k : ℕ). so_far file memory (declare names name) (channels ++ channel.Output (Some k) ∷ []) words) (number_is port t)
-      ∙ named_so (channel.Output (Some port)))
+      one_line _ _ _ (no_kind (form_test (so_far file memory names channels words) true (form.PortOutput name (decimal port))) (port_output_free port later h d))
+      (ap (λ (k : ℕ). so_far file memory (declare names name) (channels ++ channel.Output (Some k) ∷ []) words) (number_is port (port_small port h)) ∙ named_so (channel.Output (Some port)))
 
 -- ---- the line of a channel's initial words
 
@@ -252,6 +225,18 @@ filled_last cs c more =
 input_last : (cs : List Channel) (c : Channel) → is_input (Some c) ≡ true → (not (is_input (slice_get (cs ++ c ∷ []) (length cs))) || false) ≡ false
 input_last cs c e = ap (λ (o : Option Channel). not (is_input o) || false) (last_of cs c) ∙ ap (λ (b : Bool). not b || false) e
 
+initial_free : (file memory words : ℕ) (names : Words) (channels : List Channel) (name : List ℕ) (port : Option PortUse) (x : ℕ) (xs : List ℕ)
+    → name_test name ≡ true → words + length (x ∷ xs) ≤ MOST_INITIAL_WORDS → AllByRecursion (λ n. n < 2 ^ 32) (x ∷ xs) → place_of (names ++ name ∷ []) name ≡ length channels
+    → (k : BundleKind) → form_test (so_far file memory (names ++ name ∷ []) (channels ++ channel.Input [] port ∷ []) words) true (form.Initial name (map decimal (x ∷ xs))) k ≡ false
+initial_free file memory words names channels name port x xs named few fits at kind.Name = named_other name named
+initial_free file memory words names channels name port x xs named few fits at kind.Number = all_numbers (x ∷ xs) fits
+initial_free file memory words names channels name port x xs named few fits at kind.Limit =
+    ap (λ (b : Bool). b || false) (le-ltb MOST_INITIAL_WORDS (words + length (map decimal (x ∷ xs))) (omega (arith, length-map (x ∷ xs) decimal)))
+initial_free file memory words names channels name port x xs named few fits at kind.ChannelUnknown = ap (λ (b : Bool). not b || false) (knows_last names name)
+initial_free file memory words names channels name port x xs named few fits at kind.ChannelKind =
+    ap (λ (k : ℕ). not (is_input (slice_get (channels ++ channel.Input [] port ∷ []) k)) || false) at ∙ input_last channels (channel.Input [] port) refl
+initial_free file memory words names channels name port x xs named few fits at _ = refl
+
 pub initial_line : (file memory n words : ℕ) (names : Words) (channels : List Channel) (name : List ℕ) (port : Option PortUse) (x : ℕ) (xs : List ℕ)
     → name_test name ≡ true → length names ≡ length channels → is_distinct bytes_eq (names ++ name ∷ []) ≡ true
     → words + length (x ∷ xs) ≤ MOST_INITIAL_WORDS → AllByRecursion (λ n. n < 2 ^ 32) (x ∷ xs)
@@ -259,20 +244,10 @@ pub initial_line : (file memory n words : ℕ) (names : Words) (channels : List 
     (so_far file memory (names ++ name ∷ []) (channels ++ channel.Input (x ∷ xs) port ∷ []) (words + length (x ∷ xs)))
 initial_line file memory n words names channels name port x xs named same distinct few fits =
     let at : place_of (names ++ name ∷ []) name ≡ length channels = place_last names name distinct ∙ same in
+    let h = so_far file memory (names ++ name ∷ []) (channels ++ channel.Input [] port ∷ []) words in
     let long : length (map decimal (x ∷ xs)) ≡ length (x ∷ xs) = length-map (x ∷ xs) decimal in
     one_line _ _ _
-    (no_fault (so_far file memory (names ++ name ∷ []) (channels ++ channel.Input [] port ∷ []) words) true (form.Initial name (map decimal (x ∷ xs))) (record {
-      byte = refl;
-      directive = refl;
-      operands = refl;
-      name = named_other name named;
-      number = all_numbers (x ∷ xs) fits;
-      limit = ap (λ (b : Bool). b || false) (le-ltb MOST_INITIAL_WORDS (words + length (map decimal (x ∷ xs))) (omega arith));
-      port = refl;
-      repeated = refl;
-      channel_unknown = ap (λ (b : Bool). not b || false) (knows_last names name);
-      channel_kind = ap (λ (k : ℕ). not (is_input (slice_get (channels ++ channel.Input [] port ∷ []) k)) || false) at ∙ input_last channels (channel.Input [] port) refl;
-    }))
+    (no_kind (form_test h true (form.Initial name (map decimal (x ∷ xs)))) (initial_free file memory words names channels name port x xs named few fits at))
     (ap (λ (k : ℕ). so_far file memory (names ++ name ∷ []) (filled_at (channels ++ channel.Input [] port ∷ []) k (map number_or (map decimal (x ∷ xs)))) (words + length (map decimal (x ∷ xs)))) at
     ∙ ap (λ (ns : List ℕ). so_far file memory (names ++ name ∷ []) (filled_at (channels ++ channel.Input [] port ∷ []) (length channels) ns) (words + length (map decimal (x ∷ xs)))) (numbers_again (x ∷ xs) fits)
     ∙ ap (λ (cs : List Channel). so_far file memory (names ++ name ∷ []) cs (words + length (map decimal (x ∷ xs)))) (filled_last channels (channel.Input [] port) (x ∷ xs))

@@ -17,18 +17,19 @@ use Rattle.micro_isa.specs.declared.program.Program.{Program}
 use Rattle.micro_isa.specs.declared.program.Bundle.{Bundle}
 use Rattle.micro_isa.specs.Names.{name_test}
 use Rattle.micro_isa.specs.Formed.{Each, IsFormedProgram, IsFormedBundle, fits_channels, is_distinct, initial_count}
+use Rattle.asm_lines.specs.declared.fault.BundleKind.{BundleKind}
 use Rattle.asm_lines.specs.declared.fault.BundleKind.TheVariants as kind
 use Rattle.asm_lines.specs.Cutting.{Words, TextLine, text_lines}
-use Rattle.asm_lines.specs.Faults.{at_or, or_else}
+use Rattle.asm_lines.specs.Verdicts.{at_or, or_else, first_fault}
 use Rattle.asm_lines.specs.Tables.{knows}
 use Rattle.asm_header.specs.Headers.{Header, header_of, setting_of}
-use Rattle.asm_header.specs.Faults.{header_fault}
+use Rattle.asm_header.specs.Faults.{header_verdicts}
 use Rattle.asm_context.specs.Faults as context
 use Rattle.asm_context.specs.Forms.{Body, does, label_in}
 use Rattle.asm_context.specs.Said.{line_body}
 use Rattle.asm_lines.specs.Sections.{starts, ahead}
-use Rattle.asm_text.specs.Contexts.{has_instruction, start_tests, start_fault, context_fault, names_with, contexts_fault, program_at, programs}
-use Rattle.asm_text.specs.Texts.{header_in, end_fault, lines_fault, text_fault, bundle_said}
+use Rattle.asm_text.specs.Contexts.{has_instruction, start_test, start_fault, context_verdicts, context_fault, names_with, contexts_verdicts, contexts_fault, program_at, programs}
+use Rattle.asm_text.specs.Texts.{header_in, end_verdict, lines_fault, text_fault, bundle_said}
 use Rattle.asm_print.specs.Rows.{Row}
 use Rattle.asm_print.specs.Canonical.{labels_at, label_row, instruction_row, line_rows, code_rows, context_rows, words_rows, channel_rows, channels_rows, header_rows, canonical_rows, canonical_text}
 use Rattle.asm_print.proofs.Plain.{row_words, lines_with}
@@ -38,6 +39,7 @@ use Rattle.asm_print.proofs.Bytes.{rows_again}
 use Rattle.asm_print.proofs.ContextAgain.{Good, said_again}
 use Rattle.asm_print.proofs.ContextLines.{label_again}
 use Rattle.asm_lines.proofs.First.{no_kind}
+use Rattle.asm_lines.proofs.Verdicts.{first_append, free_in}
 use Rattle.asm_print.proofs.HeaderAgain.{header_leads}
 use Rattle.asm_print.proofs.HeaderLines.{so_far}
 use Rattle.asm_print.proofs.InstructionAgain.{Channelled, body_again, shape}
@@ -126,7 +128,7 @@ faults_pass : (h : Header) (names : Words) (xs ys : List TextLine) → stay xs �
 faults_pass h names [] ys e = refl
 faults_pass h names (x ∷ xs) ys e =
     let a = and_parts (not (starts x.words)) (stay xs) e in
-    ap (λ (b : Bool). if b then or_else (context_fault h names x (ahead (xs ++ ys))) (contexts_fault h (names_with names x) (xs ++ ys)) else contexts_fault h names (xs ++ ys)) (not-true (starts x.words) a.0)
+    ap (λ (b : Bool). first_fault (if b then context_verdicts h names x (ahead (xs ++ ys)) ++ contexts_verdicts h (names_with names x) (xs ++ ys) else contexts_verdicts h names (xs ++ ys))) (not-true (starts x.words) a.0)
     ∙ faults_pass h names xs ys a.1
 
 programs_pass : (h : Header) (xs ys : List TextLine) → stay xs ≡ true → programs h (xs ++ ys) ≡ programs h ys
@@ -167,27 +169,13 @@ record Told (h : Header) (before : Words) (n : ℕ) (ps : List Program) : Type 0
 abbrev context_line : ℕ → Program → TextLine
 context_line n p = record { number = n; fair = true; words = codes "context" ∷ p.name ∷ [] }
 
-start_free : (h : Header) (file : ℕ) (before : Words) (n : ℕ) (p : Program) (lines : List TextLine) → h.file ≡ Some file → name_test p.name ≡ true → length before < 8 → knows before p.name ≡ false → has_instruction lines ≡ true → start_fault h before (context_line n p) lines ≡ None
-start_free h file before n p lines f named few new does =
-    no_kind (start_tests h before (context_line n p) lines) (
-      refl,
-      (
-        refl,
-        (
-          ap (λ (b : Bool). not b || false) named,
-          (
-            lt-leb MOST_CONTEXTS (length before) few,
-            (
-              ap (λ (b : Bool). b || false) new,
-              (
-                ap (λ (o : Option ℕ). is_none o && nat_eq (length before) 0) f,
-                (ap (λ (b : Bool). not b) does, tt),
-              ),
-            ),
-          ),
-        ),
-      ),
-    )
+starts_free : (h : Header) (file : ℕ) (before : Words) (n : ℕ) (p : Program) (lines : List TextLine) → h.file ≡ Some file → name_test p.name ≡ true → length before < MOST_CONTEXTS → knows before p.name ≡ false → has_instruction lines ≡ true → (k : BundleKind) → start_test h before (context_line n p) lines k ≡ false
+starts_free h file before n p lines f named few new does kind.Name = ap (λ (b : Bool). not b || false) named
+starts_free h file before n p lines f named few new does kind.Limit = lt-leb MOST_CONTEXTS (length before) few
+starts_free h file before n p lines f named few new does kind.Repeated = ap (λ (b : Bool). b || false) new
+starts_free h file before n p lines f named few new does kind.Missing = ap (λ (o : Option ℕ). is_none o && nat_eq (length before) 0) f
+starts_free h file before n p lines f named few new does kind.Empty = ap (λ (b : Bool). not b) does
+starts_free h file before n p lines f named few new does _ = refl
 
 contexts_told : (h : Header) (file : ℕ) → h.file ≡ Some file → (before : Words) (n : ℕ) (ps : List Program) → AllByRecursion (Good h.names h.channels) ps → Behind before ps → Told h before n ps
 contexts_told h file f before n [] g b = record { free = refl; same = refl }
@@ -205,10 +193,11 @@ contexts_told h file f before n (p ∷ ps) g b =
       few = omega (arith, b.few, length-append before (p.name ∷ []));
     }) in
     let start : start_fault h before (context_line n p) body ≡ None =
-    start_free h file before n p body f (g.0).typed.name (omega (arith, b.few)) new (code_does h.names p (n + 1) 0 p.code (g.0).formed.some) in
+    no_kind (start_test h before (context_line n p) body) (starts_free h file before n p body f (g.0).typed.name (omega (arith, b.few)) new (code_does h.names p (n + 1) 0 p.code (g.0).formed.some)) in
     record {
       free =
-          ap (λ ls. or_else (context_fault h before (context_line n p) (ahead ls)) (contexts_fault h (names_with before (context_line n p)) ls)) split
+          ap (λ ls. contexts_fault h before (context_line n p ∷ ls)) split
+          ∙ first_append (context_verdicts h before (context_line n p) (ahead (body ++ rest))) (contexts_verdicts h (names_with before (context_line n p)) (body ++ rest))
           ∙ ap (λ own. or_else (context_fault h before (context_line n p) own) (contexts_fault h (names_with before (context_line n p)) (body ++ rest))) own
           ∙ ap (λ k. or_else (at_or n k (context.lines_fault (context.channels h.names h.channels) body)) (contexts_fault h (names_with before (context_line n p)) (body ++ rest))) start
           ∙ ap (λ o. or_else o (contexts_fault h (names_with before (context_line n p)) (body ++ rest))) again.free
@@ -248,6 +237,7 @@ said_whole b f t =
     let n = 1 + length (header_rows b) in
     let tail = lines_with n (flat_map (context_rows b.names) b.programs) in
     let lines : text_lines (canonical_text b) ≡ head ++ tail = rows_again (canonical_rows b) (all_rows_plain b f t good) ∙ lines-append 1 (header_rows b) (flat_map (context_rows b.names) b.programs) in
+    let last = end_verdict (head ++ tail) ∷ [] in
     let leads = header_leads b f t in
     let stays : stay head ≡ true = stay_rows 1 (header_rows b) (header_stays b) in
     let front : ahead (head ++ tail) ≡ head = ahead_all head tail stays (contexts_turn n b.names b.programs) in
@@ -258,11 +248,9 @@ said_whole b f t =
     record {
       free =
           ap lines_fault lines
-          ∙ ap (λ ls. or_else (header_fault ls) (or_else (contexts_fault (header_in (head ++ tail)) [] (head ++ tail)) (end_fault (head ++ tail)))) front
-          ∙ ap (λ o. or_else o (or_else (contexts_fault (header_in (head ++ tail)) [] (head ++ tail)) (end_fault (head ++ tail)))) leads.free
-          ∙ ap (λ h. or_else (contexts_fault h [] (head ++ tail)) (end_fault (head ++ tail))) header
-          ∙ ap (λ o. or_else o (end_fault (head ++ tail))) (faults_pass h [] head tail stays ∙ told.free)
-          ∙ ap (λ (c : Bool). if c then None else Some (record { line = length (head ++ tail) + 1; kind = kind.Missing })) some;
+          ∙ free_in (header_verdicts (ahead (head ++ tail))) (contexts_verdicts (header_in (head ++ tail)) [] (head ++ tail) ++ last) (ap (λ ls. first_fault (header_verdicts ls)) front ∙ leads.free)
+          ∙ free_in (contexts_verdicts (header_in (head ++ tail)) [] (head ++ tail)) last (ap (λ h. contexts_fault h [] (head ++ tail)) header ∙ faults_pass h [] head tail stays ∙ told.free)
+          ∙ ap (λ (c : Bool). first_fault ((length (head ++ tail) + 1, if c then None else Some kind.Missing) ∷ [])) some;
       same =
           ap (λ ls. unlined (bundle_said ls)) lines
           ∙ ap (λ (h : Header). unlined (record { file = unwrap_or h.file 0; setting = setting_of h; names = h.names; programs = programs h (head ++ tail) })) header

@@ -5,10 +5,10 @@ use Rattle.std.proofs.lemmas.List.Sums.{fold-append}
 use Rattle.micro_isa.specs.declared.instr.Instr.{Instr}
 use Rattle.micro_isa.specs.declared.program.VReg.{VReg}
 use Rattle.micro_isa.specs.declared.program.Line.{Line}
-use Rattle.asm_lines.specs.declared.fault.BundleKind.{BundleKind}
 use Rattle.asm_lines.specs.Cutting.{TextLine}
-use Rattle.asm_lines.specs.Faults.{At, at_or, or_else}
-use Rattle.asm_context.specs.Faults.{Channels, line_fault, faults_after}
+use Rattle.asm_lines.specs.Verdicts.{at_or, first_fault}
+use Rattle.asm_lines.proofs.Verdicts.{free_in}
+use Rattle.asm_context.specs.Faults.{Channels, line_fault, verdicts_after, faults_after}
 use Rattle.asm_context.specs.Programs.{line_code, code_after}
 use Rattle.asm_context.specs.Said.{Said, with_line, said_by}
 
@@ -34,16 +34,11 @@ module _ (chs : Channels) (all : Said) where
     code = λ before b. ap instrs (append-nil (line_code chs.names (said_by before) all l)) ∙ ap (λ x. instrs (line_code chs.names x all l)) b ∙ c;
   }
 
-  at_or_else : (n : ℕ) (o : Option BundleKind) (a b : Option At) → at_or n o (or_else a b) ≡ or_else (at_or n o a) b
-  at_or_else n None a b = refl
-  at_or_else n (Some k) a b = refl
-
-  faults-append : (before xs ys : List TextLine) → faults_after chs all before (xs ++ ys) ≡ or_else (faults_after chs all before xs) (faults_after chs all (before ++ xs) ys)
-  faults-append before [] ys = ap (λ b. faults_after chs all b ys) (sym (append-nil before))
-  faults-append before (x ∷ xs) ys =
-      ap (at_or x.number (line_fault chs (said_by before) all x)) (faults-append (before ++ x ∷ []) xs ys)
-      ∙ at_or_else x.number (line_fault chs (said_by before) all x) (faults_after chs all (before ++ x ∷ []) xs) (faults_after chs all ((before ++ x ∷ []) ++ xs) ys)
-      ∙ ap (λ b. or_else (faults_after chs all before (x ∷ xs)) (faults_after chs all b ys)) (append_assoc before (x ∷ []) xs)
+  verdicts-append : (before xs ys : List TextLine) → verdicts_after chs all before (xs ++ ys) ≡ verdicts_after chs all before xs ++ verdicts_after chs all (before ++ xs) ys
+  verdicts-append before [] ys = ap (λ b. verdicts_after chs all b ys) (sym (append-nil before))
+  verdicts-append before (x ∷ xs) ys =
+      ap (λ vs. (x.number, line_fault chs (said_by before) all x) ∷ vs) (verdicts-append (before ++ x ∷ []) xs ys)
+      ∙ ap (λ b. verdicts_after chs all before (x ∷ xs) ++ verdicts_after chs all b ys) (append_assoc before (x ∷ []) xs)
 
   code-append : (before xs ys : List TextLine) → code_after chs.names all before (xs ++ ys) ≡ code_after chs.names all before xs ++ code_after chs.names all (before ++ xs) ys
   code-append before [] ys = ap (λ b. code_after chs.names all b ys) (sym (append-nil before))
@@ -56,7 +51,7 @@ module _ (chs : Channels) (all : Said) where
   then_walk s t u xs ys is js a b =
       let on : (before : List TextLine) → said_by before ≡ s → said_by (before ++ xs) ≡ t = λ before e. fold-append with_line _ before xs ∙ ap (λ x. fold with_line x xs) e ∙ a.said in
       record {
-        free = λ before e. faults-append before xs ys ∙ ap (λ o. or_else o (faults_after chs all (before ++ xs) ys)) (a.free before e) ∙ b.free (before ++ xs) (on before e);
+        free = λ before e. ap first_fault (verdicts-append before xs ys) ∙ free_in (verdicts_after chs all before xs) (verdicts_after chs all (before ++ xs) ys) (a.free before e) ∙ b.free (before ++ xs) (on before e);
         said = fold-append with_line s xs ys ∙ ap (λ x. fold with_line x ys) a.said ∙ b.said;
         code = λ before e. ap instrs (code-append before xs ys) ∙ map-append (λ (l : Line). l.instr) (code_after chs.names all before xs) (code_after chs.names all (before ++ xs) ys)
             ∙ ap (λ c. c ++ instrs (code_after chs.names all (before ++ xs) ys)) (a.code before e) ∙ ap (λ c. is ++ c) (b.code (before ++ xs) (on before e));

@@ -8,23 +8,26 @@ use Rattle.std.proofs.lemmas.List.{length-append}
 use Rattle.std.proofs.lemmas.Option.{same_Some}
 use Rattle.micro_isa.specs.declared.program.Program.{Program}
 use Rattle.micro_isa.specs.Formed.{Each, always_rises, is_distinct, fits_channels, IsFormedProgram, IsFormedBundle}
-use Rattle.asm_lines.specs.declared.fault.BundleKind.TheVariants.{Missing}
+use Rattle.asm_lines.specs.declared.fault.BundleKind.{BundleKind}
+use Rattle.asm_lines.specs.declared.fault.BundleKind.TheVariants as kind
 use Rattle.micro_isa.specs.declared.program.Bundle.{Bundle}
 use Rattle.asm_lines.specs.Cutting.{Words, TextLine, numbered, lines_from, text_lines}
-use Rattle.asm_lines.specs.Faults.{At, or_else}
+use Rattle.asm_lines.specs.Faults.{At}
+use Rattle.asm_lines.specs.Verdicts.{first_fault}
 use Rattle.micro_isa.specs.declared.limits.TheConstants.{MOST_CONTEXTS, MOST_FILE, MOST_MEMORY}
 use Rattle.asm_lines.specs.Tables.{knows, declare, one}
-use Rattle.asm_lines.proofs.First.{none_met, none_at, none_first}
+use Rattle.asm_lines.proofs.First.{none_met}
+use Rattle.asm_lines.proofs.Verdicts.{none_at, none_in}
 use Rattle.asm_lines.proofs.Known.{declare_new, distinct_snoc, other_word}
 use Rattle.asm_header.specs.Headers.{Header}
-use Rattle.asm_header.specs.Faults.{header_fault}
+use Rattle.asm_header.specs.Faults.{header_verdicts}
 use Rattle.asm_header.specs.Sound.{IsSound}
 use Rattle.asm_header.proofs.Sounding.{sound_header}
 use Rattle.asm_context.specs.Faults as context
 use Rattle.asm_context.proofs.Forming.{program_formed, channels_fit, rises_weaker}
 use Rattle.asm_lines.specs.Sections.{starts, ahead}
-use Rattle.asm_text.specs.Contexts.{name_in, has_instruction, start_tests, start_fault, context_fault, names_with, contexts_fault, program_at, programs}
-use Rattle.asm_text.specs.Texts.{header_in, end_fault, lines_fault, bundle_said, Spells}
+use Rattle.asm_text.specs.Contexts.{name_in, has_instruction, start_test, start_fault, context_verdicts, names_with, contexts_verdicts, contexts_fault, program_at, programs}
+use Rattle.asm_text.specs.Texts.{header_in, end_verdict, lines_fault, bundle_said, Spells}
 
 each_cons : {A : Type 0} (P : A → Type 0) (x : A) (xs : List A) → P x → Each xs P → Each (x ∷ xs) P
 each_cons P x xs p ps zero y e = subst P (same_Some x y e) p
@@ -60,8 +63,8 @@ started_as h names line lines (Some name) is some new room file has = record {
 
 started : (h : Header) (names : Words) (line : TextLine) (lines : List TextLine) → start_fault h names line lines ≡ None → IsStarted h names line lines
 started h names line lines e =
-    let t = none_met (start_tests h names line lines) e in
-    started_as h names line lines (name_in line.words) refl t.1.0 t.1.1.1.1.0 (leb-false MOST_CONTEXTS (length names) t.1.1.1.0) t.1.1.1.1.1.0 (not_false (has_instruction lines) t.1.1.1.1.1.1.0)
+    let t = none_met (start_test h names line lines) e in
+    started_as h names line lines (name_in line.words) refl (t kind.Operands) (t kind.Repeated) (leb-false MOST_CONTEXTS (length names) (t kind.Limit)) (t kind.Missing) (not_false (has_instruction lines) (t kind.Empty))
 
 ahead_rises : (least : ℕ) (lines : List TextLine) → always_rises least (map (λ l. l.number) lines) ≡ true → always_rises least (map (λ l. l.number) (ahead lines)) ≡ true
 ahead_rises least [] e = refl
@@ -110,10 +113,12 @@ contexts_formed h names least [] le few apart rises e = record {
 }
 contexts_formed h names least (line ∷ lines) le few apart rises e =
     let parts = and_parts (nat_le least line.number) (always_rises (line.number + 1) (map (λ l. l.number) lines)) rises in
-    let Goal : Bool → Type 0 = λ b. (if b then or_else (context_fault h names line (ahead lines)) (contexts_fault h (names_with names line) lines) else contexts_fault h names lines) ≡ None → AreFormed h names (if b then program_at h line (ahead lines) ∷ programs h lines else programs h lines) in
+    let own = context_verdicts h names line (ahead lines) in
+    let rest = contexts_verdicts h (names_with names line) lines in
+    let Goal : Bool → Type 0 = λ b. first_fault (if b then own ++ rest else contexts_verdicts h names lines) ≡ None → AreFormed h names (if b then program_at h line (ahead lines) ∷ programs h lines else programs h lines) in
     let go : (b : Bool) → Goal b = λ b. elim b as Goal [
       | true ↦ λ f.
-          let both = none_first (context_fault h names line (ahead lines)) (contexts_fault h (names_with names line) lines) f in
+          let both = none_in own rest f in
           let here = none_at line.number (start_fault h names line (ahead lines)) (context.lines_fault (context.channels h.names h.channels) (ahead lines)) both.0 in
           let s = started h names line (ahead lines) here.0 in
           let own_rises = ahead_rises 1 lines (rises_weaker 1 (line.number + 1) (map (λ l. l.number) lines) (omega arith) parts.1) in
@@ -135,10 +140,12 @@ record HasContext (h : Header) (ps : List Program) : Type 0 where
 context_there : (h : Header) (lines : List TextLine) → list_any (λ l. starts l.words) lines ≡ true → contexts_fault h [] lines ≡ None → HasContext h (programs h lines)
 context_there h [] has e = absurd (true≢false (sym has))
 context_there h (line ∷ lines) has e =
-    let Goal : Bool → Type 0 = λ b. (b || list_any (λ l. starts l.words) lines) ≡ true → (if b then or_else (context_fault h [] line (ahead lines)) (contexts_fault h (names_with [] line) lines) else contexts_fault h [] lines) ≡ None → HasContext h (if b then program_at h line (ahead lines) ∷ programs h lines else programs h lines) in
+    let own = context_verdicts h [] line (ahead lines) in
+    let rest = contexts_verdicts h (names_with [] line) lines in
+    let Goal : Bool → Type 0 = λ b. (b || list_any (λ l. starts l.words) lines) ≡ true → first_fault (if b then own ++ rest else contexts_verdicts h [] lines) ≡ None → HasContext h (if b then program_at h line (ahead lines) ∷ programs h lines else programs h lines) in
     let go : (b : Bool) → Goal b = λ b. elim b as Goal [
       | true ↦ λ has f.
-          let both = none_first (context_fault h [] line (ahead lines)) (contexts_fault h (names_with [] line) lines) f in
+          let both = none_in own rest f in
           let here = none_at line.number (start_fault h [] line (ahead lines)) (context.lines_fault (context.channels h.names h.channels) (ahead lines)) both.0 in
           let s = started h [] line (ahead lines) here.0 in
           record { file = and_true (is_none h.file) s.file; some = omega arith }
@@ -148,14 +155,13 @@ context_there h (line ∷ lines) has e =
 not_none : (at : At) → Some at ≡ None → false ≡ true
 not_none at e = absurd (cc)
 
-end_there : (lines : List TextLine) → end_fault lines ≡ None → list_any (λ l. starts l.words) lines ≡ true
+end_there : (lines : List TextLine) → first_fault (end_verdict lines ∷ []) ≡ None → list_any (λ l. starts l.words) lines ≡ true
 end_there lines e =
-    let none : Option At = None in
-    let missing : Option At = Some (record { line = length lines + 1; kind = Missing }) in
-    let Goal : Bool → Type 0 = λ b. (if b then none else missing) ≡ none → b ≡ true in
+    let none : Option BundleKind = None in
+    let Goal : Bool → Type 0 = λ b. first_fault ((length lines + 1, if b then none else Some kind.Missing) ∷ []) ≡ None → b ≡ true in
     let go : (b : Bool) → Goal b = λ b. elim b as Goal [
       | true ↦ λ f. refl
-      | false ↦ λ f. not_none (record { line = length lines + 1; kind = Missing }) f
+      | false ↦ λ f. not_none (record { line = length lines + 1; kind = kind.Missing }) f
     ] in go (list_any (λ l. starts l.words) lines) e
 
 file_formed : (h : Header) (o : Option ℕ) → h.file ≡ o → IsSound h → is_none o ≡ false → (1 ≤ unwrap_or o 0) × (unwrap_or o 0 ≤ MOST_FILE)
@@ -169,8 +175,8 @@ memory_formed h (Some n) is s = s.memory n is
 lines_formed : (lines : List TextLine) → always_rises 1 (map (λ l. l.number) lines) ≡ true → lines_fault lines ≡ None → IsFormedBundle (bundle_said lines)
 lines_formed lines rises e =
     let h = header_in lines in
-    let first = none_first (header_fault (ahead lines)) (or_else (contexts_fault h [] lines) (end_fault lines)) e in
-    let second = none_first (contexts_fault h [] lines) (end_fault lines) first.1 in
+    let first = none_in (header_verdicts (ahead lines)) (contexts_verdicts h [] lines ++ end_verdict lines ∷ []) e in
+    let second = none_in (contexts_verdicts h [] lines) (end_verdict lines ∷ []) first.1 in
     let s = sound_header (ahead lines) first.0 in
     let c = contexts_formed h [] 1 lines (omega arith) (omega arith) refl rises second.0 in
     let t = context_there h lines (end_there lines second.1) second.0 in

@@ -4,17 +4,22 @@ use Rattle.std.specs.List.{list_any}
 use Rattle.micro_isa.specs.declared.program.Program.{Program}
 use Rattle.asm_lines.specs.declared.fault.BundleFault.{BundleFault}
 use Rattle.asm_lines.specs.Cutting.{Words, TextLine}
-use Rattle.asm_lines.specs.Faults.{or_else, Causes}
+use Rattle.asm_lines.specs.Faults.{Causes}
+use Rattle.asm_lines.specs.Verdicts.{first_fault, or_else}
 use Rattle.asm_lines.proofs.Causing.{caused_first}
 use Rattle.asm_lines.proofs.Counting.{few_after}
+use Rattle.asm_lines.proofs.Verdicts.{first_append}
 use Rattle.asm_header.specs.Headers.{Header}
 use Rattle.asm_lines.specs.Sections.{starts, ahead, after, LinesLeft, Takes, IsPast}
 use Rattle.asm_context.specs.Forms.{does}
 use Rattle.asm_context.specs.Said.{line_body}
-use Rattle.asm_text.specs.Contexts.{has_instruction, names_with, context_fault, contexts_fault, program_at, programs}
+use Rattle.asm_text.specs.Contexts.{has_instruction, names_with, context_verdicts, context_fault, contexts_verdicts, contexts_fault, program_at, programs}
 
 contexts_cons : (h : Header) (names : Words) (x : TextLine) (ls : List TextLine) → starts x.words ≡ true → contexts_fault h names (x ∷ ls) ≡ or_else (context_fault h names x (ahead ls)) (contexts_fault h (names_with names x) ls)
-contexts_cons h names x ls s = ap (λ b. if b then or_else (context_fault h names x (ahead ls)) (contexts_fault h (names_with names x) ls) else contexts_fault h names ls) s
+contexts_cons h names x ls s =
+    let own = context_verdicts h names x (ahead ls) in
+    let later = contexts_verdicts h (names_with names x) ls in
+    ap (λ b. first_fault (if b then own ++ later else contexts_verdicts h names ls)) s ∙ first_append own later
 
 programs_cons : (h : Header) (x : TextLine) (ls : List TextLine) → starts x.words ≡ true → programs h (x ∷ ls) ≡ program_at h x (ahead ls) ∷ programs h ls
 programs_cons h x ls s = ap (λ b. if b then program_at h x (ahead ls) ∷ programs h ls else programs h ls) s
@@ -24,9 +29,9 @@ programs_cons h x ls s = ap (λ b. if b then program_at h x (ahead ls) ∷ progr
 pub passed : (h : Header) (names : Words) (lines : List TextLine) → contexts_fault h names (after lines) ≡ contexts_fault h names lines
 passed h names [] = refl
 passed h names (x ∷ ls) =
-    let found = or_else (context_fault h names x (ahead ls)) (contexts_fault h (names_with names x) ls) in
-    let go : (b : Bool) → starts x.words ≡ b → contexts_fault h names (if b then x ∷ ls else after ls) ≡ (if b then found else contexts_fault h names ls) = elim [
-      | true ↦ λ s. contexts_cons h names x ls s
+    let found = context_verdicts h names x (ahead ls) ++ contexts_verdicts h (names_with names x) ls in
+    let go : (b : Bool) → starts x.words ≡ b → contexts_fault h names (if b then x ∷ ls else after ls) ≡ first_fault (if b then found else contexts_verdicts h names ls) = elim [
+      | true ↦ λ s. ap (λ b. first_fault (if b then found else contexts_verdicts h names ls)) s
       | false ↦ λ s. passed h names ls
     ] in go (starts x.words) refl
 
@@ -112,6 +117,9 @@ read_on h names names2 all all2 x p left next later whole t past n free is more 
       few = omega (arith, ap length past.after, few_after next.lines, ap length t.lines, r.few);
       count = omega (arith, past.count, t.number, ap length t.lines, r.count);
     }
+
+pub fewer : (x : TextLine) (left next later : LinesLeft) → Takes left x next → IsPast next later → length later.lines < length left.lines
+fewer x left next later t past = omega (arith, ap length past.after, few_after next.lines, ap length t.lines)
 
 -- a fault of a context is the first of those from its line on
 pub caused_here : (why : BundleFault) (h : Header) (names : Words) (all : List Program) (x : TextLine) (left next whole : LinesLeft) → Takes left x next → Causes why (context_fault h names x (ahead next.lines)) → AreRead h names all left whole → Causes why (contexts_fault h [] whole.lines)

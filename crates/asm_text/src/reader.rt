@@ -7,8 +7,7 @@ ghost use Rattle.asm_lines.specs.Tables.{words_seen};
 ghost use Rattle.asm_header.specs.Headers.{setting_of};
 ghost use Rattle.asm_header.specs.Views.{seen_header};
 ghost use Rattle.micro_isa.specs.Formed.{IsFormedBundle};
-ghost use Rattle.asm_text.specs.Texts.{bundle_said, lines_fault, text_fault, Spells, SpellsAlone, SpellsNone};
-ghost use Rattle.asm_text.specs.Verdicts.{Tells};
+ghost use Rattle.asm_text.specs.Texts.{bundle_said, lines_fault, text_fault, Spells, SpellsAlone, SpellsNone, Tells};
 
 use crate::context::read_contexts;
 use asm_header::{Header, read_header};
@@ -65,12 +64,10 @@ fn read_text(alloc: Global, text: &[u8]) -> Result<Bundle, BundleFault>
 #[tactic(auto, using(crate::proofs::Spelling::spelled_alone, crate::proofs::Spelling::unspelled, crate::proofs::Forming::spelled_formed, crate::proofs::Judging::tells))]
 pub fn read_bundle(alloc: Global, text: &[u8]) -> Result<Bundle, BundleFault>
     requires { length text.now ≤ LONGEST_TEXT }
-    ensures fine { IfOk result (λ b. Spells text.now b) }
+    ensures tells { Tells text.now result }
     ensures alone { IfOk result (SpellsAlone text.now) }
     ensures formed { IfOk result IsFormedBundle }
-    ensures cause { IfErr result (λ why. Causes why (text_fault text.now)) }
     ensures unspelled { IfErr result (λ why. SpellsNone why text.now) }
-    ensures tells { IfErr result (λ why. Tells why text.now) }
 {
     read_text(alloc, text)
 }

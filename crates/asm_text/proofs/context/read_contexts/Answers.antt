@@ -6,7 +6,7 @@ use Rattle.asm_lines.proofs.Causing.{passed_up}
 use Rattle.asm_lines.proofs.Counting.{few_ahead, few_after}
 use Rattle.asm_header.specs.Views.{seen_header}
 use Rattle.asm_text.specs.Contexts.{contexts_fault}
-use Rattle.asm_text.proofs.Walking.{unread, read_on, caused_here, all_free, all_programs, all_counted}
+use Rattle.asm_text.proofs.Walking.{unread, read_on, fewer, caused_here, all_free, all_programs, all_counted}
 use Rattle.asm_text.proofs.context.read_contexts.Goals as goal
 
 pub read_one-requires-clause-few : goal.read_one-requires-clause-few
@@ -18,10 +18,10 @@ pub returns-in_err-program-clause-cause : goal.returns-in_err-program-clause-cau
 returns-in_err-program-clause-cause c =
     let n : Takes c.contexts.lines c.in-Some.row c.next.new.self = rw c.in-Some.is at c.in_ok-row.ensures in
     let h = seen_header c.args.header.now in
-    let names = words_seen c.contexts.names.keys in
     let all = contexts_fault h [] c.args.lines.now.lines in
-    let k : Causes c.in_err-program.field-0.0 all = caused_here c.in_err-program.field-0.0 h names c.contexts.all c.in-Some.row c.contexts.lines c.next.new.self c.args.lines.now n c.in_err-program.ensures.cause c.contexts.invariant in
-    passed_up c.from_residual-in_err-program.result c.in_err-program.field-0.0 (λ why. Causes why all) c.from_residual-in_err-program.ensures.1 k
+    let why = c.in_err-program.field-0.0 in
+    let k : Causes why all = caused_here why h (words_seen c.contexts.names.keys) c.contexts.all c.in-Some.row c.contexts.lines c.next.new.self c.args.lines.now n c.in_err-program.ensures.cause c.contexts.invariant in
+    passed_up c.from_residual-in_err-program.result why (λ why. Causes why all) c.from_residual-in_err-program.ensures.1 k
 
 pub contexts-init : goal.contexts-init
 contexts-init c =
@@ -30,48 +30,36 @@ contexts-init c =
 pub returns-clause-free : goal.returns-clause-free
 returns-clause-free c =
     let n : IsDone c.contexts.lines c.next.new.self = rw c.in_default.is at c.in_ok-row.ensures in
-    let h = seen_header c.args.header.now in
-    let names = words_seen c.contexts.names.keys in
-    all_free h names c.contexts.all c.contexts.lines c.args.lines.now n.none c.contexts.invariant
+    all_free (seen_header c.args.header.now) (words_seen c.contexts.names.keys) c.contexts.all c.contexts.lines c.args.lines.now n.none c.contexts.invariant
 
 pub returns-clause-programs : goal.returns-clause-programs
 returns-clause-programs c =
     let n : IsDone c.contexts.lines c.next.new.self = rw c.in_default.is at c.in_ok-row.ensures in
-    let h = seen_header c.args.header.now in
-    let names = words_seen c.contexts.names.keys in
-    all_programs h names c.contexts.all c.contexts.lines c.args.lines.now n.none c.contexts.invariant
+    all_programs (seen_header c.args.header.now) (words_seen c.contexts.names.keys) c.contexts.all c.contexts.lines c.args.lines.now n.none c.contexts.invariant
 
 pub returns-clause-count : goal.returns-clause-count
 returns-clause-count c =
     let n : IsDone c.contexts.lines c.next.new.self = rw c.in_default.is at c.in_ok-row.ensures in
-    let h = seen_header c.args.header.now in
-    let names = words_seen c.contexts.names.keys in
-    all_counted h names c.contexts.all c.contexts.lines c.next.new.self c.args.lines.now n.none n.same c.contexts.invariant
+    all_counted (seen_header c.args.header.now) (words_seen c.contexts.names.keys) c.contexts.all c.contexts.lines c.next.new.self c.args.lines.now n.none n.same c.contexts.invariant
 
 pub contexts-preserved-in-Ok : goal.contexts-preserved-in-Ok
 contexts-preserved-in-Ok c =
     let n : Takes c.contexts.lines c.in-Some.row c.next.new.self = rw c.in-Some.is at c.in_ok-row.ensures in
-    let h = seen_header c.args.header.now in
-    let names = words_seen c.contexts.names.keys in
     let r = c.in_ok-program.ensures in
-    read_on h names (words_seen c.read_one.new.names.keys) c.contexts.all c.push.new.self c.in-Some.row c.in_ok-program.program c.contexts.lines c.next.new.self c.read_one.new.lines c.args.lines.now n r.past r.names r.free r.program c.in-Ok.ensures.ok c.contexts.invariant
+    read_on (seen_header c.args.header.now) (words_seen c.contexts.names.keys) (words_seen c.read_one.new.names.keys) c.contexts.all c.push.new.self c.in-Some.row c.in_ok-program.program c.contexts.lines c.next.new.self c.read_one.new.lines c.args.lines.now n r.past r.names r.free r.program c.in-Ok.ensures.ok c.contexts.invariant
 
 pub contexts-preserved : goal.contexts-preserved
 contexts-preserved c =
     let n : Takes c.contexts.lines c.in-Some.row c.next.new.self = rw c.in-Some.is at c.in_ok-row.ensures in
-    let h = seen_header c.args.header.now in
-    let names = words_seen c.contexts.names.keys in
     let r = c.in_ok-program.ensures in
-    read_on h names (words_seen c.read_one.new.names.keys) c.contexts.all c.push.new.self c.in-Some.row c.in_ok-program.program c.contexts.lines c.next.new.self c.read_one.new.lines c.args.lines.now n r.past r.names r.free r.program c.in-Ok.ensures.ok c.contexts.invariant
+    read_on (seen_header c.args.header.now) (words_seen c.contexts.names.keys) (words_seen c.read_one.new.names.keys) c.contexts.all c.push.new.self c.in-Some.row c.in_ok-program.program c.contexts.lines c.next.new.self c.read_one.new.lines c.args.lines.now n r.past r.names r.free r.program c.in-Ok.ensures.ok c.contexts.invariant
 
 pub contexts-smaller-in-Ok : goal.contexts-smaller-in-Ok
 contexts-smaller-in-Ok c =
     let n : Takes c.contexts.lines c.in-Some.row c.next.new.self = rw c.in-Some.is at c.in_ok-row.ensures in
-    let r = c.in_ok-program.ensures in
-    omega (arith, ap length r.past.after, few_after c.next.new.self.lines, ap length n.lines)
+    fewer c.in-Some.row c.contexts.lines c.next.new.self c.read_one.new.lines n c.in_ok-program.ensures.past
 
 pub contexts-smaller : goal.contexts-smaller
 contexts-smaller c =
     let n : Takes c.contexts.lines c.in-Some.row c.next.new.self = rw c.in-Some.is at c.in_ok-row.ensures in
-    let r = c.in_ok-program.ensures in
-    omega (arith, ap length r.past.after, few_after c.next.new.self.lines, ap length n.lines)
+    fewer c.in-Some.row c.contexts.lines c.next.new.self c.read_one.new.lines n c.in_ok-program.ensures.past

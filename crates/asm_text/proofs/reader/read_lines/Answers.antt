@@ -18,53 +18,37 @@ returns-in_err-header-clause-cause c =
 
 pub read_contexts-requires-clause-there : goal.read_contexts-requires-clause-there
 read_contexts-requires-clause-there c =
-    let s = c.in_ok-header.ensures in
-    let lines = c.args.lines.now.lines in
-    let left = c.read_header.new.lines.lines in
-    ap after s.past.after ∙ after_again lines ∙ sym s.past.after
+    let past = c.in_ok-header.ensures.past in
+    ap after past.after ∙ after_again c.args.lines.now.lines ∙ sym past.after
 
 pub read_contexts-requires-clause-few : goal.read_contexts-requires-clause-few
 read_contexts-requires-clause-few c =
-    let s = c.in_ok-header.ensures in
-    let lines = c.args.lines.now.lines in
-    let left = c.read_header.new.lines.lines in
-    omega (arith, ap length s.past.after, few_after lines, c.requires.few)
+    omega (arith, ap length c.in_ok-header.ensures.past.after, few_after c.args.lines.now.lines, c.requires.few)
 
 pub returns-in_err-programs-clause-cause : goal.returns-in_err-programs-clause-cause
 returns-in_err-programs-clause-cause c =
     let s = c.in_ok-header.ensures in
     let lines = c.args.lines.now.lines in
-    let left = c.read_header.new.lines.lines in
+    let why = c.in_err-programs.field-0.0 in
     let all = lines_fault lines in
-    let k : Causes c.in_err-programs.field-0.0 all = caused_contexts c.in_err-programs.field-0.0 (seen_header c.in_ok-header.header) lines left s.header s.past.after s.free c.in_err-programs.ensures.cause in
-    passed_up c.from_residual-in_err-programs.result c.in_err-programs.field-0.0 (λ why. Causes why all) c.from_residual-in_err-programs.ensures.1 k
+    let k : Causes why all = caused_contexts why (seen_header c.in_ok-header.header) lines c.read_header.new.lines.lines s.header s.past.after s.free c.in_err-programs.ensures.cause in
+    passed_up c.from_residual-in_err-programs.result why (λ why. Causes why all) c.from_residual-in_err-programs.ensures.1 k
 
 pub returns-then-is_empty-clause-cause : goal.returns-then-is_empty-clause-cause
 returns-then-is_empty-clause-cause c =
     let s = c.in_ok-header.ensures in
-    let lines = c.args.lines.now.lines in
-    let left = c.read_header.new.lines.lines in
     let t = c.in_ok-programs.ensures in
-    let h = seen_header c.in_ok-header.header in
     let ps = c.in_ok-programs.programs in
-    caused_missing h ps lines left c.number.result s.header s.past.after s.free t.free t.programs (eqb-true (length ps) 0 (sym c.is_empty.ensures ∙ c.if-is_empty.true)) (omega (arith, c.number.ensures, t.count, s.past.count, c.requires.first))
+    caused_missing (seen_header c.in_ok-header.header) ps c.args.lines.now.lines c.read_header.new.lines.lines c.number.result s.header s.past.after s.free t.free t.programs (eqb-true (length ps) 0 (sym c.is_empty.ensures ∙ c.if-is_empty.true)) (omega (arith, c.number.ensures, t.count, s.past.count, c.requires.first))
 
 pub returns-clause-free : goal.returns-clause-free
 returns-clause-free c =
     let s = c.in_ok-header.ensures in
-    let lines = c.args.lines.now.lines in
-    let left = c.read_header.new.lines.lines in
     let t = c.in_ok-programs.ensures in
-    let h = seen_header c.in_ok-header.header in
-    let ps = c.in_ok-programs.programs in
-    no_fault h ps lines left s.header s.past.after s.free t.free t.programs (omega (arith, eqb-false (length ps) 0 (sym c.is_empty.ensures ∙ c.if-is_empty.false)))
+    let some = eqb-false (length c.in_ok-programs.programs) 0 (sym c.is_empty.ensures ∙ c.if-is_empty.false) in
+    no_fault (seen_header c.in_ok-header.header) c.in_ok-programs.programs c.args.lines.now.lines c.read_header.new.lines.lines s.header s.past.after s.free t.free t.programs (omega (arith, some))
 
 pub returns-clause-said : goal.returns-clause-said
 returns-clause-said c =
     let s = c.in_ok-header.ensures in
-    let lines = c.args.lines.now.lines in
-    let left = c.read_header.new.lines.lines in
-    let t = c.in_ok-programs.ensures in
-    let h = seen_header c.in_ok-header.header in
-    let ps = c.in_ok-programs.programs in
-    c.in_ok-bundle.ensures ∙ said_all h ps lines left s.header s.past.after t.programs
+    c.in_ok-bundle.ensures ∙ said_all (seen_header c.in_ok-header.header) c.in_ok-programs.programs c.args.lines.now.lines c.read_header.new.lines.lines s.header s.past.after c.in_ok-programs.ensures.programs
