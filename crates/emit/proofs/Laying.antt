@@ -1,13 +1,18 @@
 -- What the code of a whole context asks for.
 use Rattle.std.proofs.Common.{◌≡◌, ℕ, suc, ◌+◌, ◌<◌, ◌≤◌, List, [], ◌∷◌, ◌++◌, length, Option, Some, None, Bool, true, false, refl, sym, ap, ◌∙◌, arith, append_assoc, add-one}
-use Rattle.std.specs.Prelude.{slice_get, slice_index, ◌==◌, if◌then◌else◌}
+use Rattle.std.specs.Prelude.{slice_get, slice_index, option_map, ◌==◌, if◌then◌else◌}
 use Rattle.std.proofs.lemmas.Option.{get_or_from_slice_get}
 use Rattle.micro_isa.specs.declared.instr.Instr.{Instr}
-use Rattle.micro_isa.specs.declared.instr.Instr.TheVariants.{Li, Mov, Alu, Div, Ctx, Jmp, Branch, Load, Store, Yield, Recv, Send, Halt}
 use Rattle.micro_isa.specs.declared.program.Line.{Line}
 use Rattle.micro_isa.specs.declared.image.PReg.{PReg}
 use Rattle.micro_isa.specs.declared.image.Word.{Word}
-use Rattle.micro_isa.specs.Columns.{next_of}
+use Rattle.micro_isa.specs.declared.operation.Operation.{Operation}
+use Rattle.micro_isa.specs.declared.operands.Operands.{Operands}
+use Rattle.micro_isa.specs.declared.operands.Extra.{Extra}
+use Rattle.micro_isa.specs.declared.operands.Extra.TheVariants as extra
+use Rattle.micro_isa.specs.Columns.{target_in, next_of}
+use Rattle.micro_isa.specs.Operands.{operation_of, operands_of, instr_of, with, renamed, retargeted, or_halt}
+use Rattle.micro_isa.proofs.Laws.{reworded, jumps_to}
 use Rattle.flow_graph.specs.Paths.{IsClosedCode}
 use Rattle.edge_moves.specs.declared.step.Step.{Step}
 use Rattle.edge_moves.specs.declared.step.Step.TheVariants as step
@@ -15,14 +20,13 @@ use Rattle.edge_moves.specs.Within.{StepWithin, StepsWithin}
 use Rattle.plan.specs.declared.row.Place.{Place}
 use Rattle.plan.specs.declared.row.Plan.{Plan}
 use Rattle.plan.specs.ValidPlans.{place_in, IsValidPlan}
-use Rattle.micro_isa.specs.Pieces.{pieces, total}
+use Rattle.micro_isa.specs.Pieces.{pieces}
 use Rattle.emitted.specs.Edges.{row_at, place_or_zero, next_at, edge_steps, steps_to, fall_steps, jump_steps}
-use Rattle.emitted.specs.Words.{reword, address, size_with_jump, block_size, block_address, target_for, target_from, word_for, word_at, block_words, block_to, block_at}
+use Rattle.emitted.specs.Words.{reword, address, block_address, target_for, target_from, word_for, word_at, block_words, block_to, block_at}
 use Rattle.emitted.proofs.Rows.{row_valid, listed_below}
 use Rattle.emitted.proofs.Implementing.{single_at}
 use Rattle.emitted.proofs.FormedWords.{fall_below, jump_below}
 use Rattle.emit.specs.Addressed.{firsts}
-use Rattle.emit.proofs.Edging.{jump_edge}
 
 -- steps and places of a valid plan are small
 
@@ -76,20 +80,20 @@ goto_is code plan i start h j e =
     steps = ap (λ o. steps_to code plan i o) e
 
 -- the word of an instruction, where its target is known
+
+same_target : (t : ℕ → ℕ) (goto : ℕ) (e : Extra ℕ ℕ) → ((j : ℕ) → target_in e ≡ Some j → goto ≡ t j) → retargeted (λ j. goto) e ≡ retargeted t e
+same_target t goto (extra.Target target) h = ap (λ n. extra.Target n) (h target refl)
+same_target t goto _ h = refl
+
 same_goto : {R S : Type 0} (f : R → S) (g : S) (t : ℕ → ℕ) (goto i : ℕ) (o : Instr R) → ((j : ℕ) → (next_of o i).jump ≡ Some j → goto ≡ t j) → reword f g (λ j. goto) o ≡ reword f g t o
-same_goto f g t goto i (Li to n) h = refl
-same_goto f g t goto i (Mov to from) h = refl
-same_goto f g t goto i (Alu op to a b) h = refl
-same_goto f g t goto i (Div op to a b) h = refl
-same_goto f g t goto i (Ctx to) h = refl
-same_goto f g t goto i (Jmp target) h = λ k. Jmp (h target refl k)
-same_goto f g t goto i (Branch test a b target) h = λ k. Branch test (f a) (f b) (h target refl k)
-same_goto f g t goto i (Load to address) h = refl
-same_goto f g t goto i (Store address from) h = refl
-same_goto f g t goto i Yield h = refl
-same_goto f g t goto i (Recv to channel) h = refl
-same_goto f g t goto i (Send channel from) h = refl
-same_goto f g t goto i Halt h = refl
+same_goto f g t goto i o h =
+    let x = operands_of o in
+    ap (λ (e : Extra ℕ ℕ). or_halt (instr_of (operation_of o) (with (option_map (λ r. g) x.to) (option_map f x.a) (option_map f x.b) e))) (same_target t goto x.extra (λ j e. h j (jumps_to o i ∙ e)))
+
+-- what is made of an instruction's operation and its renamed operands
+pub made_anew : {R S : Type 0} (f : R → S) (g : S) (t : ℕ → ℕ) (i : Instr R) (o : Operation) (x : Operands R ℕ ℕ) (y : Operands S ℕ ℕ) → o ≡ operation_of i → x ≡ operands_of i → y ≡ renamed f g t x → instr_of o y ≡ Some (reword f g t i)
+made_anew f g t i o x y eo ex ey =
+    (λ k. instr_of (eo k) (ey k)) ∙ ap (λ (z : Operands _ ℕ ℕ). instr_of (operation_of i) (renamed f g t z)) ex ∙ (reworded f g t i).made
 
 pub word_is : (code : List Line) (plan : Plan) (reg : ℕ → PReg) (i goto : ℕ) (l : Line) → slice_get code i ≡ Some l → ((j : ℕ) → (next_at (slice_get code i) i).jump ≡ Some j → goto ≡ target_from code plan i j) → (w : Word) → w ≡ record { instr = reword (λ v. reg (place_in (row_at plan i).places v.0)) (reg (place_or_zero (row_at plan i).write)) (λ j. goto) l.instr; counted = true; line = l.line } → w ≡ word_at code plan reg i
 word_is code plan reg i goto l is h w e =

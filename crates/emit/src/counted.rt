@@ -1,6 +1,7 @@
 //! The word of an instruction, and that of a step.
 
-ghost use Rattle.std.specs.Prelude.{ℕ, ◌≡◌, ◌<◌, Some, true, false, length, slice_get};
+ghost use Rattle.std.specs.Prelude.{ℕ, ◌≡◌, ◌<◌, Some, true, false, length, slice_get, option_map};
+ghost use Rattle.micro_isa.specs.Operands.{renamed, retargeted};
 ghost use Rattle.edge_moves.specs.Within.{StepWithin};
 ghost use Rattle.plan.specs.ValidPlans.{place_in, IsValidPlan};
 ghost use Rattle.emitted.specs.Edges.{next_at};
@@ -10,7 +11,9 @@ ghost use Rattle.emit.specs.Layouts.{register_at};
 use crate::layout::Layout;
 use crate::rows::{line_at, place_in, places_at, write_at};
 use edge_moves::Step;
-use micro_isa::{AluOp, Instr, Line, PReg, VReg, Word};
+use micro_isa::{
+    AluOp, Extra, Instr, Line, Operands, PReg, VReg, Word, instr_of, operands_of, operation_of,
+};
 use plan::{Place, Plan};
 
 /// The register of a place.
@@ -61,14 +64,58 @@ pub(crate) fn jump_word(target: u32) -> Word
     glue_word(Instr::Jmp { target })
 }
 
-fn read(places: &[Place], layout: Layout, register: VReg) -> PReg
+/// The register that a register of the source is read from.
+fn read(register: Option<VReg>, places: &[Place], layout: Layout) -> Option<PReg>
     requires { (k : ℕ) → place_in places.now k < 128 }
-    ensures { result ≡ register_at layout (place_in places.now register.0) }
+    ensures { result ≡ option_map (λ v. register_at layout (place_in places.now v.0)) register }
 {
-    register_at(layout, place_in(places, register))
+    match register {
+        Some(register) => Some(register_at(layout, place_in(places, register))),
+        None => None,
+    }
 }
 
-/// An instruction over the file: it reads from these places, writes to that one, and jumps there.
+/// The register that is written, if any.
+fn written(register: Option<VReg>, write: u8, layout: Layout) -> Option<PReg>
+    requires { write < 128 }
+    ensures { result ≡ option_map (λ v. register_at layout write) register }
+{
+    match register {
+        Some(_) => Some(register_at(layout, write)),
+        None => None,
+    }
+}
+
+fn retargeted(extra: Extra<u32, u8>, goto: u32) -> Extra<u32, u8>
+    ensures { result ≡ retargeted (λ j. goto) extra }
+{
+    match extra {
+        Extra::Target(_) => Extra::Target(goto),
+        other => other,
+    }
+}
+
+/// Operands over the file: read from these places, written to that one, and with that target.
+fn renamed(
+    operands: Operands<VReg, u32, u8>,
+    places: &[Place],
+    write: u8,
+    goto: u32,
+    layout: Layout,
+) -> Operands<PReg, u32, u8>
+    requires places { (k : ℕ) → place_in places.now k < 128 }
+    requires write { write < 128 }
+    ensures { result ≡ renamed (λ v. register_at layout (place_in places.now v.0)) (register_at layout write) (λ j. goto) operands }
+{
+    Operands {
+        to: written(operands.to, write, layout),
+        a: read(operands.a, places, layout),
+        b: read(operands.b, places, layout),
+        extra: retargeted(operands.extra, goto),
+    }
+}
+
+/// An instruction over the file: the same operation, with its operands renamed.
 fn reworded(
     instr: Instr<VReg>,
     places: &[Place],
@@ -80,55 +127,10 @@ fn reworded(
     requires write { write < 128 }
     ensures { result ≡ reword (λ v. register_at layout (place_in places.now v.0)) (register_at layout write) (λ j. goto) instr }
 {
-    match instr {
-        Instr::Li { n, .. } => Instr::Li {
-            to: register_at(layout, write),
-            n,
-        },
-        Instr::Mov { from, .. } => Instr::Mov {
-            to: register_at(layout, write),
-            from: read(places, layout, from),
-        },
-        Instr::Alu { op, a, b, .. } => Instr::Alu {
-            op,
-            to: register_at(layout, write),
-            a: read(places, layout, a),
-            b: read(places, layout, b),
-        },
-        Instr::Div { op, a, b, .. } => Instr::Div {
-            op,
-            to: register_at(layout, write),
-            a: read(places, layout, a),
-            b: read(places, layout, b),
-        },
-        Instr::Ctx { .. } => Instr::Ctx {
-            to: register_at(layout, write),
-        },
-        Instr::Jmp { .. } => Instr::Jmp { target: goto },
-        Instr::Branch { test, a, b, .. } => Instr::Branch {
-            test,
-            a: read(places, layout, a),
-            b: read(places, layout, b),
-            target: goto,
-        },
-        Instr::Load { address, .. } => Instr::Load {
-            to: register_at(layout, write),
-            address: read(places, layout, address),
-        },
-        Instr::Store { address, from } => Instr::Store {
-            address: read(places, layout, address),
-            from: read(places, layout, from),
-        },
-        Instr::Yield => Instr::Yield,
-        Instr::Recv { channel, .. } => Instr::Recv {
-            to: register_at(layout, write),
-            channel,
-        },
-        Instr::Send { channel, from } => Instr::Send {
-            channel,
-            from: read(places, layout, from),
-        },
-        Instr::Halt => Instr::Halt,
+    let operands = renamed(operands_of(&instr), places, write, goto, layout);
+    match instr_of(operation_of(&instr), operands) {
+        Some(instr) => instr,
+        None => unreachable!(),
     }
 }
 
