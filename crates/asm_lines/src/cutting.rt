@@ -27,6 +27,7 @@ impl<'a> Model for Row<'a> {
 
 impl<'a> Row<'a> {
     /// The number of the line, counted from 1.
+    #[inline(always)]
     pub fn number(&self) -> u32
         ensures { result ≡ self.now.number }
     {
@@ -34,6 +35,7 @@ impl<'a> Row<'a> {
     }
 
     /// Whether all bytes of the line are allowed, those of a comment too.
+    #[inline(always)]
     pub fn fair(&self) -> bool
         ensures { result ≡ self.now.fair }
     {
@@ -41,6 +43,7 @@ impl<'a> Row<'a> {
     }
 
     /// The words of the line.
+    #[inline(always)]
     pub fn words(&self) -> &[&'a [u8]]
         ensures { map (λ w. w.now) result.now ≡ self.now.words }
     {
@@ -48,12 +51,14 @@ impl<'a> Row<'a> {
     }
 }
 
+#[inline(always)]
 fn is_gap(c: u8) -> bool
     ensures { result ≡ is_gap c }
 {
     c == b' ' || c == b'\t' || c == b','
 }
 
+#[inline(always)]
 fn is_allowed(c: u8) -> bool
     ensures { result ≡ is_allowed c }
 {
@@ -63,7 +68,12 @@ fn is_allowed(c: u8) -> bool
 fn are_allowed(line: &[u8]) -> bool
     ensures { result ≡ list_all is_allowed line.now }
 {
-    line.iter().all(|c| is_allowed(*c))
+    for c in line {
+        if !is_allowed(*c) {
+            return false;
+        }
+    }
+    true
 }
 
 /// Appends a piece that is not empty.
@@ -80,6 +90,7 @@ fn push_piece<'a>(words: &mut SmallVec<&'a [u8], 4, Global>, word: &'a [u8]) -> 
 }
 
 /// The words of a line up to its comment.
+#[inline(always)]
 fn words_of<'a>(alloc: Global, line: &'a [u8]) -> Result<SmallVec<&'a [u8], 4, Global>, NoMemory>
     ensures { IfOk result (λ v. map (λ w. w.now) v.items ≡ words_from [] (told line.now)) }
 {
@@ -101,6 +112,7 @@ fn words_of<'a>(alloc: Global, line: &'a [u8]) -> Result<SmallVec<&'a [u8], 4, G
 }
 
 /// The line of these bytes.
+#[inline(always)]
 pub fn row_of<'a>(alloc: Global, number: u32, line: &'a [u8]) -> Result<Row<'a>, NoMemory>
     ensures { IfOk result (λ row. row ≡ line_of number line.now) }
 {

@@ -42,6 +42,7 @@ impl<'a> Lines<'a> {
     }
 
     /// The same lines, to be read once more.
+    #[inline(always)]
     pub fn again(&self) -> Lines<'a>
         ensures { result ≡ self.now }
     {
@@ -52,6 +53,7 @@ impl<'a> Lines<'a> {
     }
 
     /// The number of the next line, or of the line after the last.
+    #[inline(always)]
     pub fn number(&self) -> u32
         ensures { result ≡ self.now.number }
     {
@@ -59,6 +61,7 @@ impl<'a> Lines<'a> {
     }
 
     /// The next line.
+    #[inline(always)]
     pub fn next(&mut self, alloc: Global) -> Result<Option<Row<'a>>, NoMemory>
         ensures { IfOk result (λ row. MatchOption row (IsDone self.old self.new) (λ row. Takes self.old row self.new)) }
     {
@@ -73,6 +76,7 @@ impl<'a> Lines<'a> {
     }
 
     /// The next line, where it begins no context.
+    #[inline(always)]
     pub fn next_inside(&mut self, alloc: Global) -> Result<Option<Row<'a>>, NoMemory>
         ensures { IfOk result (λ row. MatchOption row (IsAtEnd self.old self.new) (λ row. TakesInside self.old row self.new)) }
     {
@@ -89,6 +93,7 @@ impl<'a> Lines<'a> {
 }
 
 /// A text's first line, and what follows it.
+#[inline(always)]
 fn first_line<'a>(text: &'a [u8]) -> (&'a [u8], &'a [u8])
     requires { 0 < length text.now }
     ensures cut { lines_from [] text.now ≡ result.0.now ∷ lines_from [] result.1.now }
@@ -103,6 +108,7 @@ fn first_line<'a>(text: &'a [u8]) -> (&'a [u8], &'a [u8])
 }
 
 /// Whether a line of these words begins a context.
+#[inline(always)]
 pub fn starts(words: &[&[u8]]) -> bool
     ensures { result ≡ starts (words_seen words.now) }
 {

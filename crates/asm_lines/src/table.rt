@@ -30,6 +30,7 @@ pub fn knows<'a>(names: &IndexSet<&'a [u8]>, name: &'a [u8]) -> bool
 }
 
 /// Adds a name to a table, where it is new, and answers its place and whether it is new.
+#[inline(always)]
 pub fn declare<'a>(
     names: &mut IndexSet<&'a [u8]>,
     name: &'a [u8],
