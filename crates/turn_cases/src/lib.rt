@@ -7,3 +7,9 @@ pub use log::{Log, add};
 
 #[cfg(test)]
 mod baton_tests;
+#[cfg(test)]
+mod images;
+#[cfg(test)]
+mod shared_tests;
+#[cfg(test)]
+mod sharing;
