@@ -3,6 +3,7 @@ use Rattle.std.proofs.Common.{◌≡◌, ℕ, ◌≤◌, List, length, Result, O
 use Rattle.std.specs.Prelude.{IfErr}
 use Rattle.micro_isa.specs.declared.program.Bundle.{Bundle}
 use Rattle.micro_isa.specs.declared.image.Image.{Image}
+use Rattle.micro_isa.specs.Formed.{IsFormedBundle}
 use Rattle.pressure.specs.declared.pressure_of.Pressure.{Pressure}
 use Rattle.pressure.specs.Pressures.{need_of}
 use Rattle.plan.specs.declared.row.Plan.{Plan}
@@ -15,24 +16,27 @@ use Rattle.allocate.specs.declared.allocation.AllocFault.TheVariants.{NoFit, NoM
 use Rattle.allocate.specs.Needs.{ArePressures}
 use Rattle.allocate.specs.Preferred.{HaveCells, IsPreferred}
 use Rattle.allocate.specs.Tables.{AreChosen, Refused}
-use Rattle.allocate.specs.Allocations.{IsAllocation, TellsFault, glue_of_all}
+use Rattle.allocate.specs.Allocations.{IsAllocation, TellsFault}
+use Rattle.allocate.proofs.Even.{cells_glue}
 use Rattle.allocate.proofs.Once.{cells_once, is_need}
 use Rattle.allocate.proofs.Pricing.{AreTabled, demands_same, need_same}
 use Rattle.allocate.proofs.Rooming.{all_cells}
+use Rattle.allocate.proofs.Zipping.{all_closed}
 
-pub is_allocation : (b : Bundle) (parts : List Pressure) (plans : List Plan) (budget : Budget) (image : Image) (glue need : ℕ) → ArePressures b.programs parts → IsPreferred b parts budget
-    → AreChosen b.programs budget.private budget.shared (length b.programs) plans → need ≡ need_of parts → need ≤ b.file → glue ≡ glue_of_all b plans → image ≡ emitted b plans budget
-    → IsAllocation b (record { image = image; budget = budget; plans = plans; glue = glue; need = need })
-is_allocation b parts plans budget image glue need pressures preferred chosen is_need fits is_glue is_image =
+pub is_allocation : (b : Bundle) (parts : List Pressure) (plans : List Plan) (budget : Budget) (image : Image) (need : ℕ) → IsFormedBundle b → ArePressures b.programs parts → IsPreferred b parts budget
+    → AreChosen b.programs budget.private budget.shared (length b.programs) plans → need ≡ need_of parts → need ≤ b.file → image ≡ emitted b plans budget
+    → IsAllocation b (record { image = image; budget = budget; plans = plans; glue = budget.cost; need = need })
+is_allocation b parts plans budget image need formed pressures preferred chosen is_need fits is_image =
     let have = all_cells b budget.private budget.shared plans chosen parts pressures preferred.fits in
-    let cost = (cells_once b.programs budget.private budget.shared have.0 budget.cost plans preferred.cost.0 have.1 preferred.cost.1).0 in record {
+    let cost = (cells_once b.programs budget.private budget.shared have.0 budget.cost plans preferred.cost.0 have.1 preferred.cost.1).0 in
+    let cells = subst (λ n. HaveCells b.programs budget.private budget.shared n plans) cost have.1 in record {
       parts = parts;
       pressures = pressures;
       need = is_need;
       fits = fits;
       preferred = preferred;
-      cells = subst (λ n. HaveCells b.programs budget.private budget.shared n plans) cost have.1;
-      glue = is_glue;
+      cells = cells;
+      glue = cells_glue b.programs budget.private budget.shared budget.cost plans (all_closed b formed) cells;
       image = is_image;
     }
 

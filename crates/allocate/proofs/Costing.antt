@@ -3,6 +3,8 @@ use Rattle.std.proofs.Common.{◌≡◌, ℕ, ◌+◌, ◌<◌, ◌≤◌, min, 
 use Rattle.std.specs.Prelude.{if◌then◌else◌, slice_index}
 use Rattle.std.proofs.lemmas.Bool.{cases_lt}
 use Rattle.std.proofs.lemmas.Bool.Decides.{nat_tests}
+use Rattle.micro_isa.specs.declared.limits.TheConstants.{MOST_FILE}
+use Rattle.budget.specs.declared.TheConstants.{SIZES}
 use Rattle.micro_isa.specs.declared.program.Line.{Line}
 use Rattle.flow_graph.specs.Paths.{IsClosedCode}
 use Rattle.pressure.specs.declared.region.Regions.{Regions}
@@ -123,8 +125,8 @@ fit_cost_is code p r (Some cost) out region = inr (out, region)
 
 -- one plan by the fits over the regions tells what they cost, whatever the number of places
 pub region_costs_are : (code : List Line) (regions : Regions) (are : AreRegionsOf code regions) (fits : List Fit) (are_fits : AreFits code regions fits) (from : ℕ) (plan : Plan) (costs : List ℕ)
-    → ((m n : ℕ) → m ≤ n → n ≤ 128 → DoFit fits m n true → IsRegionFit code m n (Some (record { p = m; r = n; rows = plan.rows })))
-    → ((j : ℕ) → j < 8 → slice_index costs j ≡ glue_of code (with_places plan (from + j))) → AreRegionCosts code from fits (Some costs)
+    → ((m n : ℕ) → m ≤ n → n ≤ MOST_FILE → DoFit fits m n true → IsRegionFit code m n (Some (record { p = m; r = n; rows = plan.rows })))
+    → ((j : ℕ) → j < SIZES → slice_index costs j ≡ glue_of code (with_places plan (from + j))) → AreRegionCosts code from fits (Some costs)
 region_costs_are code regions are fits are_fits from plan costs serves numbers j p less order few = (
   λ out. region_none code regions are fits are_fits p (from + j) out,
   λ test. (record { p = p; r = from + j; rows = plan.rows }, serves p (from + j) order few test, numbers j less),

@@ -11,7 +11,7 @@ use Rattle.micro_isa.specs.Pieces.{pieces, total}
 use Rattle.semantics.specs.Source.{code_in, code_of}
 use Rattle.plan.specs.declared.row.Plan.{Plan}
 use Rattle.budget.specs.declared.Budget.{Budget}
-use Rattle.budget.specs.Fitting.{Fits}
+use Rattle.budget.specs.Fitting.{SizesFit}
 use Rattle.budget.proofs.Keys.{by_key_le}
 use Rattle.emitted.specs.Words.{glue_of}
 use Rattle.emitted.specs.Emitted.{context_of, plan_at, register_in}
@@ -45,7 +45,7 @@ total_front f zero = omega arith
 total_front f (suc n) = let rest = total_front f n in omega arith
 
 -- what cells cost is the glue of their plans
-cells_glue : (programs : List Program) (sizes : List ℕ) (shared cost : ℕ) (plans : List Plan) → AreClosed programs → HaveCells programs sizes shared cost plans
+pub cells_glue : (programs : List Program) (sizes : List ℕ) (shared cost : ℕ) (plans : List Plan) → AreClosed programs → HaveCells programs sizes shared cost plans
     → cost ≡ total (λ c. glue_of (code_in (slice_get programs c)) (plan_at plans c)) (length programs)
 cells_glue [] [] shared cost plans closed cells = cells.0
 cells_glue [] (size ∷ sizes) shared cost plans closed cells = absurd cells
@@ -78,7 +78,7 @@ pub is_still : (b : Bundle) (a : Allocation) → IsFormedBundle b → IsAllocati
 is_still b a formed is = record {
   none = λ parts private shared pressures fits all.
       let same = parts_once b parts is.parts pressures is.pressures in
-      let found = is.preferred.first private shared (subst (λ ps. Fits (demands_by ps) b.file private shared) same fits) in
+      let found = is.preferred.first private shared (subst (λ ps. SizesFit (demands_by ps) b.file private shared) same fits) in
       let free = whole_free b.programs private shared all in
       let none : found.0 ≡ 0 = (cells_once b.programs private shared found.0 0 found.1.0 free.0 found.1.1 free.1).0 in
       let le = by_key_le _ _ _ found.2 in

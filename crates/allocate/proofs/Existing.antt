@@ -5,6 +5,7 @@ use Rattle.std.specs.Int.{bit_at}
 use Rattle.std.specs.List.{Contains}
 use Rattle.std.proofs.lemmas.Bool.{cases_lt}
 use Rattle.std.proofs.lemmas.Nat.Bits.{bit_at_above, bit_at_cat_low}
+use Rattle.micro_isa.specs.declared.limits.TheConstants.{MOST_FILE}
 use Rattle.micro_isa.specs.declared.program.Line.{Line}
 use Rattle.micro_isa.specs.declared.program.VReg.{VReg}
 use Rattle.micro_isa.specs.Columns.{written_by}
@@ -84,7 +85,7 @@ rows_there code live at closed is =
     (found.0, record { one_each = found.1; each = found.2 })
 
 -- the fit over the whole program has a plan where it fits, and else runs out
-pub whole_tells : (code : List Line) (live : Live) (fit : Fit) (p r : ℕ) → IsClosedCode code → IsLiveOf code live → IsFit code Every fit → p ≤ r → r ≤ 128 → TellsWhole code p r (fits_test fit p r)
+pub whole_tells : (code : List Line) (live : Live) (fit : Fit) (p r : ℕ) → IsClosedCode code → IsLiveOf code live → IsFit code Every fit → p ≤ r → r ≤ MOST_FILE → TellsWhole code p r (fits_test fit p r)
 whole_tells code live fit p r closed is fits order few = by (fits_test fit p r) refl
   where
     by : (b : Bool) → fits_test fit p r ≡ b → TellsWhole code p r b

@@ -5,6 +5,8 @@ use Rattle.std.proofs.lemmas.Bool.{cases_lt}
 use Rattle.std.proofs.lemmas.Bool.Decides.{nat_tests}
 use Rattle.std.proofs.lemmas.List.{get_or_append_left, length-replicate}
 use Rattle.std.proofs.Math.Seq.{get_or-append_right}
+use Rattle.micro_isa.specs.declared.limits.TheConstants.{MOST_FILE}
+use Rattle.budget.specs.declared.TheConstants.{SIZES}
 use Rattle.micro_isa.specs.declared.program.Line.{Line}
 use Rattle.flow_graph.specs.Paths.{IsClosedCode}
 use Rattle.liveness.specs.declared.live.Live.{Live}
@@ -23,7 +25,7 @@ pub no_rows : (code : List Line) (part : Pressure) (most : ℕ) → AreRows code
 no_rows code part most = record { long = refl; small = λ j. omega arith; rows = λ i j less. absurd (omega arith) }
 
 -- a row was appended
-pub row_more : (code : List Line) (part : Pressure) (most i : ℕ) (cells row : List ℕ) → AreRows code part most i cells → length row ≡ 8 → AreRowCosts code part (part.private + i) most row → AreSmall row
+pub row_more : (code : List Line) (part : Pressure) (most i : ℕ) (cells row : List ℕ) → AreRows code part most i cells → length row ≡ SIZES → AreRowCosts code part (part.private + i) most row → AreSmall row
     → AreRows code part most (i + 1) (cells ++ row)
 row_more code part most i cells row rows eight costs small =
     let long = length-append cells row in
@@ -35,13 +37,13 @@ row_more code part most i cells row rows eight costs small =
       ];
       rows = λ h j less col order reach. elim (cases_lt h i) [
         | inl before ↦
-            let inside : h * 8 + j < length cells = omega arith in
-            rw (get_or_append_left cells row 0 (h * 8 + j) inside) (rows.rows h j before col order reach)
+            let inside : h * SIZES + j < length cells = omega arith in
+            rw (get_or_append_left cells row 0 (h * SIZES + j) inside) (rows.rows h j before col order reach)
         | inr last ↦
             let same : h ≡ i = omega arith in
-            let outside : length cells ≤ h * 8 + j = omega arith in
-            let at : h * 8 + j - length cells ≡ j = omega arith in
-            let is : slice_index (cells ++ row) (h * 8 + j) ≡ slice_index row j = get_or-append_right cells row (h * 8 + j) 0 outside ∙ ap (slice_index row) at in
+            let outside : length cells ≤ h * SIZES + j = omega arith in
+            let at : h * SIZES + j - length cells ≡ j = omega arith in
+            let is : slice_index (cells ++ row) (h * SIZES + j) ≡ slice_index row j = get_or-append_right cells row (h * SIZES + j) 0 outside ∙ ap (slice_index row) at in
             let cost = costs j col (let o = order in omega arith) reach in
             rw is (subst (λ n. Costs code (part.private + n) (part.all + j) (slice_index row j)) (sym same) cost)
       ];
@@ -53,25 +55,25 @@ zeros (suc n) zero = refl
 zeros (suc n) (suc k) = zeros n k
 
 -- where the fit over the whole program serves the least sizes it serves all
-pub free_rows : (code : List Line) (live : Live) (fit : Fit) (part : Pressure) (most : ℕ) → IsClosedCode code → IsLiveOf code live → IsFit code Every fit → most ≤ 128
-    → fits_test fit part.private part.all ≡ true → AreRows code part most 8 (replicate 64 0)
+pub free_rows : (code : List Line) (live : Live) (fit : Fit) (part : Pressure) (most : ℕ) → IsClosedCode code → IsLiveOf code live → IsFit code Every fit → most ≤ MOST_FILE
+    → fits_test fit part.private part.all ≡ true → AreRows code part most SIZES (replicate (SIZES * SIZES) 0)
 free_rows code live fit part most closed is fits few all = record {
-  long = length-replicate {A = ℕ} 64 0;
-  small = λ k. rw (zeros 64 k) (omega arith);
+  long = length-replicate {A = ℕ} (SIZES * SIZES) 0;
+  small = λ k. rw (zeros (SIZES * SIZES) k) (omega arith);
   rows = λ i j less col order reach.
       let more : fits_test fit (part.private + i) (part.all + j) ≡ true = grind (arith, nat_tests) in
       let tells = whole_tells code live fit (part.private + i) (part.all + j) closed is fits order (omega arith) in
       let found = subst (TellsWhole code (part.private + i) (part.all + j)) more tells in
-      rw (zeros 64 (i * 8 + j)) (found.0, inl (record { fit = found.1; free = refl }));
+      rw (zeros (SIZES * SIZES) (i * SIZES + j)) (found.0, inl (record { fit = found.1; free = refl }));
 }
 
-pub is_tabled : (code : List Line) (part : Pressure) (spare : ℕ) (cells : List ℕ) → IsPressureOf code part → part.private ≤ part.all → part.all ≤ 128 → AreRows code part (part.private + spare) 8 cells
+pub is_tabled : (code : List Line) (part : Pressure) (spare : ℕ) (cells : List ℕ) → IsPressureOf code part → part.private ≤ part.all → part.all ≤ MOST_FILE → AreRows code part (part.private + spare) SIZES cells
     → IsTabled spare code (record { private = part.private; all = part.all; cells = cells })
 is_tabled code part spare cells exact order few rows = record {
   pressure = part;
   exact = exact;
   private = refl;
   all = refl;
-  is = record { order = order; few = few; whole = rows.long; small = λ i j less col le. rows.small (i * 8 + j) };
+  is = record { order = order; few = few; whole = rows.long; small = λ i j less col le. rows.small (i * SIZES + j) };
   cells = λ i j less col le reach. rows.rows i j less col le reach;
 }

@@ -5,9 +5,9 @@ use Rattle.std.proofs.lemmas.Slice.Zip.{AllZip-long}
 use Rattle.micro_isa.specs.declared.program.Line.{Line}
 use Rattle.micro_isa.specs.declared.program.Program.{Program}
 use Rattle.micro_isa.specs.declared.program.Bundle.{Bundle}
-use Rattle.liveness.specs.Pressures.{IsPrivatePressure, IsTotalPressure}
 use Rattle.pressure.specs.declared.pressure_of.Pressure.{Pressure}
 use Rattle.pressure.specs.Pressures.{IsPressureOf, need_of}
+use Rattle.pressure.proofs.Unique.{pressure_once}
 use Rattle.plan.specs.declared.row.Plan.{Plan}
 use Rattle.range_colour.proofs.Unique.{region_once, whole_once}
 use Rattle.point_walk.proofs.Once.{walk_once}
@@ -22,29 +22,6 @@ use Rattle.allocate.specs.Needs.{ArePressures, HasNeed, IsNeed}
 use Rattle.allocate.specs.Cells.{IsCell, IsCellOf, all_places, private_places}
 use Rattle.allocate.specs.Preferred.{HaveCells, IsPreferred, demands_by}
 use Rattle.allocate.specs.Allocations.{glue_of_all, IsAllocation, HasOneAllocation}
-
-both_ways : (a b : ℕ) → a ≤ b → b ≤ a → a ≡ b
-both_ways a b le ge = omega arith
-
-private_le : (code : List Line) (p q : ℕ) → IsPrivatePressure code p → IsPrivatePressure code q → p ≤ q
-private_le code p q is other = elim is.reached [
-  | inl entry ↦ other.entry p entry
-  | inr stay ↦ other.stay stay.0 p stay.1 stay.2
-]
-
-total_le : (code : List Line) (r s : ℕ) → IsTotalPressure code r → IsTotalPressure code s → r ≤ s
-total_le code r s is other =
-    let at = is.reached in
-    elim at.2 [
-      | inl before ↦ other.before at.0 r at.1 before
-      | inr after ↦ other.after at.0 r at.1 after
-    ]
-
-pub pressure_once : (code : List Line) (x y : Pressure) → IsPressureOf code x → IsPressureOf code y → x ≡ y
-pressure_once code x y a b = λ i. record {
-  private = both_ways x.private y.private (private_le code x.private y.private a.private b.private) (private_le code y.private x.private b.private a.private) i;
-  all = both_ways x.all y.all (total_le code x.all y.all a.all b.all) (total_le code y.all x.all b.all a.all) i;
-}
 
 some_same : (x y : Plan) → Some x ≡ Some y → x ≡ y
 some_same x y e = cc

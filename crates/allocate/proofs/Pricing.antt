@@ -14,13 +14,13 @@ use Rattle.budget.specs.declared.CostTable.{CostTable}
 use Rattle.budget.specs.declared.TheConstants.{SIZES}
 use Rattle.budget.specs.Best.{IsBest}
 use Rattle.budget.specs.Costs.{IsCostTable, cell_at, clipped, cost_of, demand_of, demands_of}
-use Rattle.budget.specs.Fitting.{Demand, Fits, greatest_gap, need_of as demands_need}
+use Rattle.budget.specs.Fitting.{Demand, SizesFit, greatest_gap, need_of as demands_need}
 use Rattle.budget.proofs.Choosing.{sum-cons}
 use Rattle.allocate.specs.Cells.{IsCell, IsCellOf, all_places, private_places}
 use Rattle.allocate.specs.Needs.{ArePressures}
 use Rattle.allocate.specs.Preferred.{HasCost, IsPreferred, demand_by, demands_by}
 use Rattle.allocate.specs.Tables.{IsTabled}
-use Rattle.allocate.proofs.Once.{pressure_once}
+use Rattle.pressure.proofs.Unique.{pressure_once}
 
 abbrev pub AreTabled : ℕ → List Program → List CostTable → Type 0
 AreTabled spare = AllZip (λ program table. IsTabled spare program.code table)
@@ -120,12 +120,12 @@ pub is_preferred : (b : Bundle) (parts : List Pressure) (spare : ℕ) (tables : 
 is_preferred b parts spare tables budget pressures tabled all best =
     let same = demands_same spare b.programs parts tables pressures tabled in
     let total : sum_by (λ demand. demand.private) (demands_of tables) ≡ sum_by (λ part. part.private) parts = ap (sum_by (λ (d : Demand). d.private)) same ∙ own_same parts in
-    let cost : (private : List ℕ) (shared : ℕ) → Fits (demands_of tables) b.file private shared → HasCost b.programs private shared (cost_of tables private shared) =
+    let cost : (private : List ℕ) (shared : ℕ) → SizesFit (demands_of tables) b.file private shared → HasCost b.programs private shared (cost_of tables private shared) =
     λ private shared fits. have_cost spare shared b.programs tables private tabled fits.own fits.whole (within spare shared tables private fits.own (let room = fits.room in omega arith)) in
     record {
-      fits = subst (λ ds. Fits ds b.file budget.private budget.shared) same best.fits;
+      fits = subst (λ ds. SizesFit ds b.file budget.private budget.shared) same best.fits;
       cost = subst (λ n. HasCost b.programs budget.private budget.shared n) (sym best.cost) (cost budget.private budget.shared best.fits);
       first = λ private shared fits.
-          let asked = subst (λ ds. Fits ds b.file private shared) (sym same) fits in
+          let asked = subst (λ ds. SizesFit ds b.file private shared) (sym same) fits in
           (cost_of tables private shared, cost private shared asked, best.first private shared asked);
     }

@@ -14,15 +14,15 @@ use Rattle.plan.specs.declared.row.Plan.{Plan}
 use Rattle.plan.specs.ValidPlans.{IsValidPlan}
 use Rattle.range_colour.proofs.Planning.{pushed_each}
 use Rattle.budget.specs.declared.Budget.{Budget}
-use Rattle.budget.specs.Fitting.{Fits}
+use Rattle.budget.specs.Fitting.{SizesFit}
 use Rattle.budget.proofs.Choosing.{sum-cons}
-use Rattle.emitted.specs.Emitted.{ArePlans, HasRoom}
+use Rattle.emitted.specs.Emitted.{ArePlans, PlansFit}
 use Rattle.allocate.specs.Cells.{IsCell, IsCellOf, all_places, private_places}
-use Rattle.allocate.specs.Needs.{ArePressures, AreValid}
+use Rattle.allocate.specs.Needs.{ArePressures}
 use Rattle.allocate.specs.Preferred.{HaveCells, demands_by}
 use Rattle.allocate.specs.Tables.{AreChosen, IsChosenAt}
 use Rattle.allocate.proofs.Zipping.{got, zip_at}
-use Rattle.allocate.proofs.Once.{pressure_once}
+use Rattle.pressure.proofs.Unique.{pressure_once}
 
 -- the parts of the need
 
@@ -43,7 +43,7 @@ most_part parts c d lt are =
 
 -- what the sizes give a context
 
-pub long_sizes : (parts : List Pressure) (file : ℕ) (sizes : List ℕ) (shared : ℕ) → Fits (demands_by parts) file sizes shared → length sizes ≡ length parts
+pub long_sizes : (parts : List Pressure) (file : ℕ) (sizes : List ℕ) (shared : ℕ) → SizesFit (demands_by parts) file sizes shared → length sizes ≡ length parts
 long_sizes parts file sizes shared fits = same parts sizes fits.own
   where
     same : (parts : List Pressure) (sizes : List ℕ) → AllZip (λ demand size. demand.private ≤ size) (demands_by parts) sizes → length sizes ≡ length parts
@@ -62,7 +62,7 @@ size_below [] c = omega arith
 size_below (size ∷ sizes) zero = omega (arith, sum-cons size sizes)
 size_below (size ∷ sizes) (suc c) = omega (arith, sum-cons size sizes, size_below sizes c)
 
-pub is_given : (parts : List Pressure) (file : ℕ) (sizes : List ℕ) (shared c : ℕ) (d : Pressure) → Fits (demands_by parts) file sizes shared → c < length parts
+pub is_given : (parts : List Pressure) (file : ℕ) (sizes : List ℕ) (shared c : ℕ) (d : Pressure) → SizesFit (demands_by parts) file sizes shared → c < length parts
     → IsGiven (get_or parts c d) (slice_index sizes c) shared file
 is_given parts file sizes shared c d fits lt = record {
   own = own parts sizes c fits.own lt;
@@ -107,24 +107,14 @@ have_cells (program ∷ programs) (size ∷ sizes) shared (plan ∷ plans) long 
     let rest = have_cells programs sizes shared plans (omega arith) (omega arith) (λ c q x is there. each (suc c) q x is there) in
     (here.0 + rest.0, (here.0, plan, rest.0, plans, here.1, rest.1, refl, refl))
 
-zipped : (programs : List Program) (plans : List Plan) → length plans ≡ length programs
-    → ((c : ℕ) (program : Program) (plan : Plan) → slice_get programs c ≡ Some program → slice_get plans c ≡ Some plan → IsValidPlan program.code plan) → AreValid programs plans
-zipped [] [] long each = tt
-zipped [] (plan ∷ plans) long each = absurd (omega arith)
-zipped (program ∷ programs) [] long each = absurd (omega arith)
-zipped (program ∷ programs) (plan ∷ plans) long each = (each 0 program plan refl refl, zipped programs plans (omega arith) (λ c q x is there. each (suc c) q x is there))
-
 module _ (b : Bundle) (sizes : List ℕ) (shared : ℕ) (plans : List Plan) (chosen : AreChosen b.programs sizes shared (length b.programs) plans) where
-  pub are_valid : AreValid b.programs plans
-  are_valid = zipped b.programs plans chosen.one_each (λ c program plan is there. ((chosen.each c plan there).is program is).1)
-
   pub are_plans : ArePlans b plans
   are_plans = record {
     one_each = chosen.one_each;
     valid = λ c program plan is there. ((chosen.each c plan there).is program is).1;
   }
 
-  module _ (parts : List Pressure) (pressures : ArePressures b.programs parts) (fits : Fits (demands_by parts) b.file sizes shared) where
+  module _ (parts : List Pressure) (pressures : ArePressures b.programs parts) (fits : SizesFit (demands_by parts) b.file sizes shared) where
     long : length sizes ≡ length b.programs
     long = long_sizes parts b.file sizes shared fits ∙ AllZip-long (λ p part. IsPressureOf p.code part) b.programs parts pressures
 
@@ -156,7 +146,7 @@ module _ (b : Bundle) (sizes : List ℕ) (shared : ℕ) (plans : List Plan) (cho
         read (y ∷ xs) zero x is = cc
         read (y ∷ xs) (suc k) x is = read xs k x is
 
-    pub has_room : (budget : Budget) → budget.private ≡ sizes → budget.shared ≡ shared → HasRoom b plans budget
+    pub has_room : (budget : Budget) → budget.private ≡ sizes → budget.shared ≡ shared → PlansFit b plans budget
     has_room budget own is = record {
       one_each = ap (λ l. length l) own ∙ long;
       each = λ c plan there.

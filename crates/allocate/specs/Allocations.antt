@@ -8,7 +8,7 @@ use Rattle.semantics.specs.Source.{code_of}
 use Rattle.pressure.specs.declared.pressure_of.Pressure.{Pressure}
 use Rattle.pressure.specs.Pressures.{need_of}
 use Rattle.plan.specs.declared.row.Plan.{Plan}
-use Rattle.budget.specs.Fitting.{Fits}
+use Rattle.budget.specs.Fitting.{SizesFit}
 use Rattle.emitted.specs.Words.{glue_of}
 use Rattle.emitted.specs.Emitted.{plan_at, emitted}
 use Rattle.allocate.specs.declared.allocation.Allocation.{Allocation}
@@ -44,7 +44,7 @@ pub record IsEven (a : Allocation) : Type 0 where
 
 -- there is no glue where some sizes fit at which the fit over the whole program serves each context
 pub record IsStill (b : Bundle) (a : Allocation) : Type 0 where
-  pub none : (parts : List Pressure) (private : List ℕ) (shared : ℕ) → ArePressures b.programs parts → Fits (demands_by parts) b.file private shared
+  pub none : (parts : List Pressure) (private : List ℕ) (shared : ℕ) → ArePressures b.programs parts → SizesFit (demands_by parts) b.file private shared
       → AllFitWhole b.programs private shared → a.glue ≡ 0
 
 -- a bundle has one allocation at most

@@ -5,8 +5,6 @@ use Rattle.micro_isa.specs.declared.program.Program.{Program}
 use Rattle.micro_isa.specs.declared.program.Bundle.{Bundle}
 use Rattle.liveness.specs.declared.live.Live.{Live}
 use Rattle.liveness.specs.Lives.{IsLiveOf}
-use Rattle.plan.specs.declared.row.Plan.{Plan}
-use Rattle.plan.specs.ValidPlans.{IsValidPlan}
 use Rattle.pressure.specs.declared.pressure_of.Pressure.{Pressure}
 use Rattle.pressure.specs.Pressures.{IsPressureOf, need_of}
 
@@ -28,7 +26,3 @@ pub record HasNeed (b : Bundle) (need : ℕ) : Type 0 where
 pub record IsNeed (b : Bundle) (need : ℕ) : Type 0 where
   pub has : HasNeed b need
   pub only : (n : ℕ) → HasNeed b n → n ≡ need
-
--- a valid plan for each program
-abbrev pub AreValid : List Program → List Plan → Type 0
-AreValid = AllZip (λ p plan. IsValidPlan p.code plan)

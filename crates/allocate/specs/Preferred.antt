@@ -6,7 +6,7 @@ use Rattle.micro_isa.specs.declared.program.Bundle.{Bundle}
 use Rattle.pressure.specs.declared.pressure_of.Pressure.{Pressure}
 use Rattle.plan.specs.declared.row.Plan.{Plan}
 use Rattle.budget.specs.declared.Budget.{Budget}
-use Rattle.budget.specs.Fitting.{Demand, Fits}
+use Rattle.budget.specs.Fitting.{Demand, SizesFit}
 use Rattle.budget.specs.Best.{IsNoLater}
 use Rattle.allocate.specs.Cells.{IsCellOf, FitsWhole}
 
@@ -33,9 +33,9 @@ HasCost programs sizes shared cost = (plans : List Plan) × HaveCells programs s
 
 -- the budget fits and tells its cost; each that fits has a cost, and none is preferred to this one
 pub record IsPreferred (b : Bundle) (parts : List Pressure) (budget : Budget) : Type 0 where
-  pub fits : Fits (demands_by parts) b.file budget.private budget.shared
+  pub fits : SizesFit (demands_by parts) b.file budget.private budget.shared
   pub cost : HasCost b.programs budget.private budget.shared budget.cost
-  pub first : (private : List ℕ) (shared : ℕ) → Fits (demands_by parts) b.file private shared
+  pub first : (private : List ℕ) (shared : ℕ) → SizesFit (demands_by parts) b.file private shared
       → (cost : ℕ) × HasCost b.programs private shared cost × IsNoLater budget (record { private = private; shared = shared; cost = cost })
 
 -- the fit over the whole program serves each context

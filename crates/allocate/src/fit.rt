@@ -14,7 +14,7 @@ ghost use Rattle.allocate.specs.Allocations.{IsAllocation, HasOneAllocation, IsE
 
 use crate::allocation::{AllocFault, Allocation};
 use crate::analysis::{lives_of, pressures_of};
-use crate::planning::{glue_of_all, plans_of};
+use crate::planning::plans_of;
 use crate::sizing::own_total;
 use crate::table::tables_of;
 use budget::{Budget, BudgetFault, CostTable, balance};
@@ -165,8 +165,8 @@ fn allocated(
     let parts = analysis.parts.as_slice();
     let sizes = budget.private.as_slice();
     let plans = plans_of(alloc, programs, lives, parts, sizes, budget.shared)?;
-    let glue = glue_of_all(alloc, bundle, lives, plans.as_slice())?;
     let image = emit(alloc, bundle, lives, plans.as_slice(), &budget)?;
+    let glue = budget.cost;
     Ok(Allocation {
         image,
         budget,

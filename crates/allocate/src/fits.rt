@@ -11,7 +11,7 @@ ghost use Rattle.range_colour.specs.Regional.{AreFits};
 ghost use Rattle.allocate.specs.Fits.{AreFitsOf, AreRegionCosts, TellsRegions};
 ghost use Rattle.allocate.specs.Tables.{IsFitCost, IsRegionCost};
 
-use budget::SIZES;
+use budget::{SIZE_COUNT, SIZES};
 use emit::glues;
 use flow_graph::Flow;
 use liveness::Live;
@@ -26,7 +26,7 @@ use std::alloc::Global;
 pub(crate) struct Fits {
     pub whole: Fit,
     pub regions: List<Fit>,
-    pub costs: Option<[u32; 8]>,
+    pub costs: Option<[u32; SIZE_COUNT]>,
 }
 
 /// The fits of a program, of which that over the whole of it is given. Costs begin with those for
@@ -63,7 +63,7 @@ fn region_costs(
     regions: &Regions,
     fits: &[Fit],
     from: u32,
-) -> Result<Option<[u32; 8]>, NoMemory>
+) -> Result<Option<[u32; SIZE_COUNT]>, NoMemory>
     requires closed { IsClosedCode program.now.code }
     requires live { IsLiveOf program.now.code live.now }
     requires regions { AreRegionsOf program.now.code regions.now }
@@ -95,7 +95,13 @@ pub(crate) fn fit_cost(fits: &Fits, from: u32, j: u32, p: u32) -> Option<u32>
 }
 
 /// What the plan by the fits over the regions costs, if there is one.
-fn region_cost(fits: &[Fit], costs: Option<[u32; 8]>, r: u32, j: u32, p: u32) -> Option<u32>
+fn region_cost(
+    fits: &[Fit],
+    costs: Option<[u32; SIZE_COUNT]>,
+    r: u32,
+    j: u32,
+    p: u32,
+) -> Option<u32>
     requires within { j < SIZES }
     ensures { (code : Sequence CodeLine) → TellsRegions code p r j fits.now costs → IsRegionCost code p r result }
 {

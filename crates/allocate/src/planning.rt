@@ -1,29 +1,23 @@
-//! The plan of each program, and the glue of all.
+//! The plan of each program.
 
-ghost use Rattle.std.specs.Prelude.{ℕ, ◌≡◌, ◌+◌, ◌*◌, ◌<◌, ◌≤◌, ◌++◌, ◌∷◌, [], IfOk, OnOk, length};
+ghost use Rattle.std.specs.Prelude.{ℕ, ◌≡◌, ◌+◌, ◌<◌, ◌≤◌, ◌++◌, ◌∷◌, [], IfOk, OnOk, length};
 ghost use Rattle.std.specs.List.{All};
-ghost use Rattle.micro_isa.specs.Formed.{IsFormedBundle};
 ghost use Rattle.flow_graph.specs.Paths.{IsClosedCode};
 ghost use Rattle.liveness.specs.Lives.{IsLiveOf};
 ghost use Rattle.pressure.specs.Pressures.{IsPart, IsPressureOf};
 ghost use Rattle.plan.specs.ValidPlans.{IsValidPlan};
-ghost use Rattle.semantics.specs.Source.{code_of};
 ghost use Rattle.budget.specs.Costs.{clipped};
-ghost use Rattle.budget.specs.Fitting.{Fits};
-ghost use Rattle.emitted.specs.Words.{glue_of};
-ghost use Rattle.emitted.specs.Emitted.{plan_at};
-ghost use Rattle.allocate.specs.Needs.{AreLives, ArePressures, AreValid};
+ghost use Rattle.budget.specs.Fitting.{SizesFit};
+ghost use Rattle.allocate.specs.Needs.{AreLives, ArePressures};
 ghost use Rattle.allocate.specs.Items.{AreClosed};
 ghost use Rattle.allocate.specs.Cells.{IsCellOf};
 ghost use Rattle.allocate.specs.Preferred.{demands_by};
 ghost use Rattle.allocate.specs.Tables.{AreChosen, IsChosenAt};
-ghost use Rattle.allocate.specs.Allocations.{glue_of_all};
 
 use crate::cell::{Planned, cell};
 use budget::SIZES;
-use emit::glue;
 use liveness::Live;
-use micro_isa::{Bundle, List, MOST_FILE, NoMemory, Program};
+use micro_isa::{List, MOST_FILE, NoMemory, Program};
 use plan::Plan;
 use pressure::Pressure;
 use std::alloc::Global;
@@ -41,7 +35,7 @@ pub(crate) fn plans_of(
     requires lives { AreLives programs.now lives.now }
     requires parts { ArePressures programs.now parts.now }
     requires ordered { All IsPart parts.now }
-    requires fits { Fits (demands_by parts.now) MOST_FILE sizes.now shared }
+    requires fits { SizesFit (demands_by parts.now) MOST_FILE sizes.now shared }
     ensures { IfOk result (AreChosen programs.now sizes.now shared (length programs.now)) }
 {
     let mut plans = List::new(alloc);
@@ -65,7 +59,7 @@ fn planned(
     requires lives { AreLives programs.now lives.now }
     requires parts { ArePressures programs.now parts.now }
     requires ordered { All IsPart parts.now }
-    requires fits { Fits (demands_by parts.now) MOST_FILE sizes.now shared }
+    requires fits { SizesFit (demands_by parts.now) MOST_FILE sizes.now shared }
     requires within { c < length programs.now }
     ensures { IfOk result (IsChosenAt programs.now sizes.now shared c) }
 {
@@ -113,41 +107,4 @@ fn push_plan(plans: &mut List<Plan>, plan: Plan) -> Result<(), NoMemory>
         return Err(NoMemory);
     }
     Ok(())
-}
-
-/// The glue words of all plans.
-pub(crate) fn glue_of_all(
-    alloc: Global,
-    bundle: &Bundle,
-    lives: &[Live],
-    plans: &[Plan],
-) -> Result<u32, NoMemory>
-    requires formed { IsFormedBundle bundle.now }
-    requires lives { AreLives bundle.now.programs lives.now }
-    requires valid { AreValid bundle.now.programs plans.now }
-    ensures { IfOk result (λ glue. glue ≡ glue_of_all bundle.now plans.now) }
-{
-    let mut all = 0u32;
-    for c in 0..bundle.programs.len() {
-        all += glue_at(alloc, bundle, lives, plans, c)?;
-    }
-    Ok(all)
-}
-
-fn glue_at(
-    alloc: Global,
-    bundle: &Bundle,
-    lives: &[Live],
-    plans: &[Plan],
-    c: usize,
-) -> Result<u32, NoMemory>
-    requires formed { IsFormedBundle bundle.now }
-    requires lives { AreLives bundle.now.programs lives.now }
-    requires valid { AreValid bundle.now.programs plans.now }
-    requires within { c < length bundle.now.programs }
-    ensures number { IfOk result (λ glue. glue ≡ glue_of (code_of bundle.now c) (plan_at plans.now c)) }
-    ensures few { IfOk result (λ glue. glue ≤ 763 * 2048) }
-{
-    let programs = bundle.programs.as_slice();
-    glue(alloc, &programs[c], &lives[c], &plans[c])
 }

@@ -9,7 +9,7 @@ ghost use Rattle.allocate.specs.Fits.{AreFitsOf};
 ghost use Rattle.allocate.specs.Tables.{AreRowCosts, AreSmall, AreWalkCosts, Costs, IsBeyond, IsWalkCost, lesser_cost};
 
 use crate::fits::{Fits, fit_cost};
-use budget::{MOST_COST, SIZES};
+use budget::{MOST_COST, SIZE_COUNT, SIZES};
 use emit::glues;
 use liveness::Live;
 use micro_isa::{MOST_FILE, NoMemory, Program};
@@ -27,8 +27,8 @@ pub(crate) fn row_costs(
     p: u32,
     most: u32,
     fits: &Fits,
-    beyond: &mut Option<[u32; 8]>,
-) -> Result<[u32; 8], NoMemory>
+    beyond: &mut Option<[u32; SIZE_COUNT]>,
+) -> Result<[u32; SIZE_COUNT], NoMemory>
     requires closed { IsClosedCode program.now.code }
     requires live { IsLiveOf program.now.code live.now }
     requires part { IsPressureOf program.now.code part }
@@ -43,7 +43,7 @@ pub(crate) fn row_costs(
     ensures beyond { IsBeyond program.now.code part.all beyond.new }
 {
     if are_free(fits, part, p, most) {
-        return Ok([0; 8]);
+        return Ok([0; SIZE_COUNT]);
     }
     let walked = costs_with(alloc, program, live, part, p, most, beyond)?;
     Ok(lesser_costs(fits, part, p, most, &walked))
@@ -58,8 +58,8 @@ fn costs_with(
     part: Pressure,
     p: u32,
     most: u32,
-    beyond: &mut Option<[u32; 8]>,
-) -> Result<[u32; 8], NoMemory>
+    beyond: &mut Option<[u32; SIZE_COUNT]>,
+) -> Result<[u32; SIZE_COUNT], NoMemory>
     requires closed { IsClosedCode program.now.code }
     requires live { IsLiveOf program.now.code live.now }
     requires part { IsPressureOf program.now.code part }
@@ -87,8 +87,8 @@ fn costs_beyond(
     live: &Live,
     part: Pressure,
     most: u32,
-    beyond: &mut Option<[u32; 8]>,
-) -> Result<[u32; 8], NoMemory>
+    beyond: &mut Option<[u32; SIZE_COUNT]>,
+) -> Result<[u32; SIZE_COUNT], NoMemory>
     requires closed { IsClosedCode program.now.code }
     requires live { IsLiveOf program.now.code live.now }
     requires part { IsPressureOf program.now.code part }
@@ -142,7 +142,7 @@ fn walk_costs(
     part: Pressure,
     p: u32,
     most: u32,
-) -> Result<[u32; 8], NoMemory>
+) -> Result<[u32; SIZE_COUNT], NoMemory>
     requires closed { IsClosedCode program.now.code }
     requires live { IsLiveOf program.now.code live.now }
     requires part { IsPressureOf program.now.code part }
@@ -158,14 +158,20 @@ fn walk_costs(
 }
 
 /// What the cells cost, where the walk costs so much.
-fn lesser_costs(fits: &Fits, part: Pressure, p: u32, most: u32, walked: &[u32; 8]) -> [u32; 8]
+fn lesser_costs(
+    fits: &Fits,
+    part: Pressure,
+    p: u32,
+    most: u32,
+    walked: &[u32; SIZE_COUNT],
+) -> [u32; SIZE_COUNT]
     requires all { part.all ≤ MOST_FILE }
     requires most { most ≤ MOST_FILE }
     ensures costs { (code : Sequence CodeLine) → AreFitsOf code part.all fits.now → AreWalkCosts code p part.all walked.now → AreRowCosts code part p most result }
     ensures small { AreSmall walked.now → AreSmall result }
 {
-    let mut costs = [0u32; 8];
-    for j in 0..8 {
+    let mut costs = [0u32; SIZE_COUNT];
+    for j in 0..SIZE_COUNT {
         costs[j] = cell_cost(fits, part.all, j as u32, p, most, walked[j]);
     }
     costs

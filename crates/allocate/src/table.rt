@@ -12,7 +12,7 @@ ghost use Rattle.allocate.specs.Tables.{AreRows, IsTabled};
 
 use crate::fits::{Fits, fits_of};
 use crate::row_costs::row_costs;
-use budget::{CostTable, SIZES};
+use budget::{CostTable, SIZE_COUNT, SIZES};
 use liveness::Live;
 use micro_isa::{List, MOST_FILE, NoMemory, Program};
 use pressure::Pressure;
@@ -150,7 +150,7 @@ fn rows_of(
     ensures { IfOk result (AreRows program.now.code part most SIZES) }
 {
     let mut cells = List::new(alloc);
-    let mut beyond: Option<[u32; 8]> = None;
+    let mut beyond: Option<[u32; SIZE_COUNT]> = None;
     for i in 0..SIZES {
         let p = part.private + i;
         let row = row_costs(alloc, program, live, part, p, most, fits, &mut beyond)?;
@@ -159,9 +159,9 @@ fn rows_of(
     Ok(cells)
 }
 
-fn push_row(cells: &mut List<u32>, row: &[u32; 8]) -> Result<(), NoMemory>
+fn push_row(cells: &mut List<u32>, row: &[u32; SIZE_COUNT]) -> Result<(), NoMemory>
     ensures row { OnOk result (cells.new ≡ cells.old ++ row.now) }
-    ensures eight { length row.now ≡ 8 }
+    ensures eight { length row.now ≡ SIZES }
 {
     for cost in row {
         push_cost(cells, *cost)?;

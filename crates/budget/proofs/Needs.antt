@@ -3,7 +3,7 @@ use Rattle.std.proofs.Common.{◌≡◌, ℕ, ◌+◌, ◌-◌, ◌≤◌, min, 
 use Rattle.std.specs.List.{AllZip, sum_by}
 use Rattle.std.proofs.lemmas.List.Sums.{sum_by-cons}
 use Rattle.budget.specs.declared.CostTable.{CostTable}
-use Rattle.budget.specs.Fitting.{Demand, Fits, greatest_gap, need_of}
+use Rattle.budget.specs.Fitting.{Demand, SizesFit, greatest_gap, need_of}
 use Rattle.budget.specs.Costs.{cost_of, demand_of, demands_of}
 use Rattle.budget.specs.Choices.{least_sum}
 use Rattle.budget.proofs.Choosing.{sum-cons, least_sum-cons}
@@ -106,7 +106,7 @@ own_total (table ∷ tables) =
 pub need_is : (tables : List CostTable) (gap : ℕ) → gap ≡ greatest_gap (demands_of tables) → least_sum tables gap + gap ≡ need_of (demands_of tables)
 need_is tables gap is = let e = least_at_gap tables gap (omega arith) in omega arith
 
-pub need_fits : (tables : List CostTable) (file : ℕ) → need_of (demands_of tables) ≤ file → Fits (demands_of tables) file (own_sizes tables) (greatest_gap (demands_of tables))
+pub need_fits : (tables : List CostTable) (file : ℕ) → need_of (demands_of tables) ≤ file → SizesFit (demands_of tables) file (own_sizes tables) (greatest_gap (demands_of tables))
 need_fits tables file le = record {
   own = own_fits tables;
   whole = gap_fits tables (greatest_gap (demands_of tables)) (omega arith);

@@ -8,7 +8,7 @@ use Rattle.budget.specs.declared.choice.Entry.{Entry}
 use Rattle.budget.specs.declared.sharing.Mark.{Mark}
 use Rattle.budget.specs.declared.TheConstants.{SIZES}
 use Rattle.budget.specs.Orders.{ByKey, IsNoGreater}
-use Rattle.budget.specs.Fitting.{Fits, greatest_gap, need_of}
+use Rattle.budget.specs.Fitting.{SizesFit, greatest_gap, need_of}
 use Rattle.budget.specs.Costs.{IsCostTable, cost_of, demands_of}
 use Rattle.budget.specs.Best.{CanFit, IsBest, IsNoLater, total_of}
 use Rattle.budget.specs.Choices.{IsBestBelow, IsOpen, entry_of, least_sum, mark_of, sizes_of, spare_of}
@@ -47,7 +47,7 @@ module _ (tables : List CostTable) (file gap : ℕ) (all : All IsCostTable table
     | inr less ↦ inl (omega arith)
   ]
 
-  near : (private : List ℕ) (shared : ℕ) → shared < gap + SIZES → Fits (demands_of tables) file private shared → IsNoLater budget (priced tables private shared)
+  near : (private : List ℕ) (shared : ℕ) → shared < gap + SIZES → SizesFit (demands_of tables) file private shared → IsNoLater budget (priced tables private shared)
   near private shared less fits =
       let least = fits_least tables shared private fits.own fits.whole in
       let low = least_below tables shared private least in
@@ -60,7 +60,7 @@ module _ (tables : List CostTable) (file gap : ℕ) (all : All IsCostTable table
       (by_key_moved _ _ (mark_of tables file shared).total (sum private + shared) (least_sum tables shared + shared) _ refl (omega arith) rest))
       (best.first shared less opens) on_list
 
-  far : (private : List ℕ) (shared : ℕ) → gap + SIZES ≤ shared → Fits (demands_of tables) file private shared → IsNoLater budget (priced tables private shared)
+  far : (private : List ℕ) (shared : ℕ) → gap + SIZES ≤ shared → SizesFit (demands_of tables) file private shared → IsNoLater budget (priced tables private shared)
   far private shared more fits =
       let room = fits.room in
       let nearer = near private (gap + 7) (omega arith) (record { own = fits.own; whole = gap_serves tables gap private (omega arith) fits.own; room = omega arith }) in

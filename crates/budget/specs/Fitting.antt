@@ -8,7 +8,7 @@ pub record Demand : Type 0 where
   pub all : ℕ
 
 -- each context has what it needs of its own, and in all with the shared ones; the file has them all
-pub record Fits (demands : List Demand) (file : ℕ) (private : List ℕ) (shared : ℕ) : Type 0 where
+pub record SizesFit (demands : List Demand) (file : ℕ) (private : List ℕ) (shared : ℕ) : Type 0 where
   pub own : AllZip (λ demand size. demand.private ≤ size) demands private
   pub whole : AllZip (λ demand size. demand.all ≤ size + shared) demands private
   pub room : sum private + shared ≤ file

@@ -14,6 +14,9 @@ use thiserror::Error;
 /// Sizes of each kind for which a table has costs: the least one and those just above it.
 pub const SIZES: u32 = 8;
 
+/// As many, as the length of an array.
+pub const SIZE_COUNT: usize = SIZES as usize;
+
 /// The greatest cost that a table may have in a cell at which a budget can look.
 pub const MOST_COST: u32 = 16_777_216;
 

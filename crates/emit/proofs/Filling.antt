@@ -4,6 +4,7 @@ use Rattle.std.specs.Prelude.{slice_get, slice_index, slice_set, ◌==◌, if◌
 use Rattle.std.proofs.lemmas.List.{get_or-set_same, get_or-set_other, drop_more}
 use Rattle.std.proofs.lemmas.Option.{slice_get-get_or}
 use Rattle.std.proofs.lemmas.Bool.Decides.{nat_tests}
+use Rattle.micro_isa.specs.declared.limits.TheConstants.{MOST_REGISTERS}
 use Rattle.micro_isa.specs.declared.program.Line.{Line}
 use Rattle.flow_graph.specs.Paths.{IsClosedCode}
 use Rattle.liveness.specs.Liveness.{LiveIn}
@@ -50,5 +51,5 @@ row_small code plan i closed valid lt = record {
       live_small code closed live.0 i q.register.0 live.1;
 }
 
-pub small_at : (qs : List Place) (a : ℕ) (d : Place) → AreSmall qs → a < length qs → (get_or qs a d).register.0 < 128
+pub small_at : (qs : List Place) (a : ℕ) (d : Place) → AreSmall qs → a < length qs → (get_or qs a d).register.0 < MOST_REGISTERS
 small_at qs a d small lt = small.each a (get_or qs a d) (slice_get-get_or qs a d lt)

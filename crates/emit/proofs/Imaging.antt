@@ -10,7 +10,7 @@ use Rattle.semantics.specs.Source.{code_of}
 use Rattle.plan.specs.declared.row.Plan.{Plan}
 use Rattle.plan.specs.ValidPlans.{IsValidPlan}
 use Rattle.budget.specs.declared.Budget.{Budget}
-use Rattle.emitted.specs.Emitted.{plan_at, start_of, emitted, ArePlans, HasRoom, IsEmitted}
+use Rattle.emitted.specs.Emitted.{plan_at, start_of, emitted, ArePlans, PlansFit, IsEmitted}
 use Rattle.emitted.proofs.Rows.{item_at}
 use Rattle.emitted.proofs.Ranges.{ends_below}
 use Rattle.emitted.proofs.Implementing.{closed, valid}
@@ -44,11 +44,11 @@ take_all (x ∷ xs) = ap (λ l. x ∷ l) (take_all xs)
 pub whole : (xs : List ℕ) → start_of xs (length xs) ≡ sum xs
 whole xs = ap sum (take_all xs)
 
-pub is_emitted_as : (b : Bundle) (plans : List Plan) (budget : Budget) (m : Image) → IsFormedBundle b → ArePlans b plans → HasRoom b plans budget → m ≡ emitted b plans budget → IsEmitted b plans budget m
+pub is_emitted_as : (b : Bundle) (plans : List Plan) (budget : Budget) (m : Image) → IsFormedBundle b → ArePlans b plans → PlansFit b plans budget → m ≡ emitted b plans budget → IsEmitted b plans budget m
 is_emitted_as b plans budget m formed are room e = subst (IsEmitted b plans budget) (sym e) (is_emitted b plans budget formed are room)
 
-pub valid_at : (b : Bundle) (plans : List Plan) (budget : Budget) (c : ℕ) → IsFormedBundle b → ArePlans b plans → HasRoom b plans budget → c < length b.programs → IsValidPlan (code_of b c) (plan_at plans c)
+pub valid_at : (b : Bundle) (plans : List Plan) (budget : Budget) (c : ℕ) → IsFormedBundle b → ArePlans b plans → PlansFit b plans budget → c < length b.programs → IsValidPlan (code_of b c) (plan_at plans c)
 valid_at b plans budget c formed are room lt = let p = item_at b.programs c lt in valid b plans budget formed are room c p.0 p.1
 
-pub closed_at : (b : Bundle) (plans : List Plan) (budget : Budget) (c : ℕ) → IsFormedBundle b → ArePlans b plans → HasRoom b plans budget → c < length b.programs → IsClosedCode (code_of b c)
+pub closed_at : (b : Bundle) (plans : List Plan) (budget : Budget) (c : ℕ) → IsFormedBundle b → ArePlans b plans → PlansFit b plans budget → c < length b.programs → IsClosedCode (code_of b c)
 closed_at b plans budget c formed are room lt = let p = item_at b.programs c lt in closed b plans budget formed are room c p.0 p.1

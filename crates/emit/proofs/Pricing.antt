@@ -3,6 +3,7 @@ use Rattle.std.proofs.Common.{◌≡◌, ℕ, zero, suc, ◌+◌, ◌*◌, ◌<�
 use Rattle.std.specs.Prelude.{is_some, nat_lt, slice_get, slice_index, ◌||◌, if◌then◌else◌}
 use Rattle.std.proofs.lemmas.Bool.Decides.{nat_tests}
 use Rattle.std.proofs.lemmas.List.{length-map}
+use Rattle.micro_isa.specs.declared.limits.TheConstants.{MOST_FILE}
 use Rattle.micro_isa.specs.declared.program.Line.{Line}
 use Rattle.micro_isa.specs.declared.image.PReg.{PReg}
 use Rattle.edge_moves.specs.MoveSteps.{Pair, is_source, moving, move_steps}
@@ -11,13 +12,14 @@ use Rattle.edge_moves.specs.Costs.{most_steps}
 use Rattle.plan.specs.declared.row.Place.{Place}
 use Rattle.plan.specs.declared.row.Plan.{Plan}
 use Rattle.plan.specs.ValidPlans.{IsValidPlan}
-use Rattle.emitted.specs.Edges.{place, row_at, next_at, written_in, pair_from, pairs_from, free_from, fall_steps}
+use Rattle.emitted.specs.Edges.{place, row_at, next_at, written_in, pair_from, pairs_from, free_from, fall_steps, most_edge_steps}
 use Rattle.emitted.specs.Words.{block_size}
 use Rattle.emitted.proofs.FewSteps.{few_places}
 use Rattle.emitted.proofs.Places.{free_is}
 use Rattle.emitted.proofs.Rows.{row_valid, listed_below}
 use Rattle.emit.specs.declared.edge_costs.EdgeCosts.{EdgeCosts}
 use Rattle.emit.specs.Addressed.{size_of_block}
+use Rattle.emit.specs.Limits.{most_line_glue}
 use Rattle.emit.specs.Sized.{AreCostsOf, AreCostsTo, AreFew, glue_with, place_or_end, steps_with, with_places}
 use Rattle.emit.specs.Tables.{AreAfter}
 use Rattle.emit.proofs.Edging.{no_steps, same_pairs}
@@ -62,11 +64,11 @@ nothing_costs pairs none = record {
 pub nothing_to : (code : List Line) (plan : Plan) (i : ℕ) → AreCostsTo code plan i None (record { unnamed = 0; with_free = 0; without = 0 })
 nothing_to code plan i = record { steps = λ r le. either_same (nat_lt 0 r) 0; few = nothing_few }
 
-pub few_most : (n : ℕ) → n ≤ 128 → most_steps n ≤ 381
+pub few_most : (n : ℕ) → n ≤ MOST_FILE → most_steps n ≤ most_edge_steps
 few_most n le = grind (arith, nat_tests)
 
 -- by the least place that no pair names, and the costs with a free place and without
-pub costs_are : (pairs : List Pair) (unnamed with_free without : ℕ) → unnamed ≡ place_or_end 255 (free_from pairs 255 0) → with_free ≤ 381 → without ≤ 381
+pub costs_are : (pairs : List Pair) (unnamed with_free without : ℕ) → unnamed ≡ place_or_end 255 (free_from pairs 255 0) → with_free ≤ most_edge_steps → without ≤ most_edge_steps
     → ((free : PReg) → IsFree pairs (Some free) → with_free ≡ length (move_steps pairs (Some free)))
     → without ≡ length (move_steps pairs None)
     → AreCostsOf pairs (record { unnamed = unnamed; with_free = with_free; without = without })
@@ -81,10 +83,10 @@ costs_are pairs unnamed with_free without is low_with low_without some none = re
     by r None free_of same true e = absurd (cc)
     by r None free_of same false e = none
 
-pub few_pairs : (f : ℕ → ℕ) (next : List Place) → length next ≤ 128 → length (pairs_from f next) ≤ 128
+pub few_pairs : (f : ℕ → ℕ) (next : List Place) → length next ≤ MOST_FILE → length (pairs_from f next) ≤ MOST_FILE
 few_pairs f next few = let long = length-map next (pair_from f) in omega arith
 
-pub few_listed : (code : List Line) (plan : Plan) (j : ℕ) → IsValidPlan code plan → j < length code → length (row_at plan j).places ≤ 128
+pub few_listed : (code : List Line) (plan : Plan) (j : ℕ) → IsValidPlan code plan → j < length code → length (row_at plan j).places ≤ MOST_FILE
 few_listed code plan j valid there =
     let qs = (row_at plan j).places in
     let places = length-map qs (λ q. q.place) in
@@ -100,14 +102,14 @@ costs_edge code plan i j table next costs after is are =
       few = are.few;
     }
 
-with_few : (fall jump : EdgeCosts) (r : ℕ) → AreFew fall → AreFew jump → (b c : Bool) → (if b then fall.with_free else fall.without) + size_of_block (if c then jump.with_free else jump.without) ≤ 763
+with_few : (fall jump : EdgeCosts) (r : ℕ) → AreFew fall → AreFew jump → (b c : Bool) → (if b then fall.with_free else fall.without) + size_of_block (if c then jump.with_free else jump.without) ≤ most_line_glue
 with_few fall jump r f g b c =
-    let one : (if b then fall.with_free else fall.without) ≤ 381 = either b fall f in
-    let two : (if c then jump.with_free else jump.without) ≤ 381 = either c jump g in
+    let one : (if b then fall.with_free else fall.without) ≤ most_edge_steps = either b fall f in
+    let two : (if c then jump.with_free else jump.without) ≤ most_edge_steps = either c jump g in
     let three = block_few (if c then jump.with_free else jump.without) in
     omega arith
   where
-    either : (b : Bool) (costs : EdgeCosts) → AreFew costs → (if b then costs.with_free else costs.without) ≤ 381
+    either : (b : Bool) (costs : EdgeCosts) → AreFew costs → (if b then costs.with_free else costs.without) ≤ most_edge_steps
     either true costs few = few.with_free
     either false costs few = few.without
 
@@ -115,7 +117,7 @@ with_few fall jump r f g b c =
     block_few zero = omega arith
     block_few (suc n) = omega arith
 
-pub glue_few : (fall jump : EdgeCosts) (r : ℕ) → AreFew fall → AreFew jump → glue_with fall jump r ≤ 763
+pub glue_few : (fall jump : EdgeCosts) (r : ℕ) → AreFew fall → AreFew jump → glue_with fall jump r ≤ most_line_glue
 glue_few fall jump r f g = with_few fall jump r f g (nat_lt fall.unnamed r) (nat_lt jump.unnamed r)
 
 -- the glue words of an instruction

@@ -4,7 +4,7 @@ use Rattle.micro_isa.specs.declared.program.Line.{Line}
 use Rattle.micro_isa.specs.declared.image.PReg.{PReg}
 use Rattle.edge_moves.specs.MoveSteps.{Pair, move_steps}
 use Rattle.plan.specs.declared.row.Plan.{Plan}
-use Rattle.emitted.specs.Edges.{free_from, steps_to}
+use Rattle.emitted.specs.Edges.{free_from, most_edge_steps, steps_to}
 use Rattle.emit.specs.Addressed.{size_of_block}
 use Rattle.emit.specs.declared.edge_costs.EdgeCosts.{EdgeCosts}
 
@@ -27,8 +27,8 @@ glue_with fall jump r = steps_with fall r + size_of_block (steps_with jump r)
 
 -- neither number of steps is large
 pub record AreFew (costs : EdgeCosts) : Type 0 where
-  pub with_free : costs.with_free ≤ 381
-  pub without : costs.without ≤ 381
+  pub with_free : costs.with_free ≤ most_edge_steps
+  pub without : costs.without ≤ most_edge_steps
 
 -- the costs are those of these pairs
 pub record AreCostsOf (pairs : List Pair) (costs : EdgeCosts) : Type 0 where

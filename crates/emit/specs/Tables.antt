@@ -1,5 +1,6 @@
 -- Places by the numbers of registers.
 use Rattle.std.specs.Prelude.{ℕ, ◌≡◌, ◌<◌, ◌==◌, List, Option, Some, None, slice_get, slice_index, if◌then◌else◌}
+use Rattle.micro_isa.specs.declared.limits.TheConstants.{MOST_REGISTERS}
 use Rattle.micro_isa.specs.declared.program.VReg.{VReg}
 use Rattle.micro_isa.specs.declared.program.Line.{Line}
 use Rattle.plan.specs.declared.row.Place.{Place}
@@ -8,7 +9,7 @@ use Rattle.emitted.specs.Edges.{row_at, written_in, place_after}
 
 -- the registers of the list have room in a table
 pub record AreSmall (places : List Place) : Type 0 where
-  pub each : (i : ℕ) (q : Place) → slice_get places i ≡ Some q → q.register.0 < 128
+  pub each : (i : ℕ) (q : Place) → slice_get places i ≡ Some q → q.register.0 < MOST_REGISTERS
 
 -- the table has the place of each register after instruction i
 pub record AreAfter (code : List Line) (plan : Plan) (i : ℕ) (table : List ℕ) : Type 0 where

@@ -6,11 +6,11 @@ ghost use Rattle.plan.specs.ValidPlans.{place_in, IsValidPlan};
 ghost use Rattle.emit.specs.Tables.{AreAfter, AreSmall, place_with};
 
 use crate::rows::{places_at, write_at, written_at};
-use micro_isa::{Line, VReg};
+use micro_isa::{Line, MOST_REGISTERS, VReg};
 use plan::{Place, Plan};
 
 /// A place for each register, by the register's number.
-pub(crate) type Places = [u8; 128];
+pub(crate) type Places = [u8; MOST_REGISTERS];
 
 /// Where each register is after instruction `i`, where it is live then or written.
 pub(crate) fn places_after(code: &[Line], plan: &Plan, i: usize) -> Places
@@ -20,7 +20,7 @@ pub(crate) fn places_after(code: &[Line], plan: &Plan, i: usize) -> Places
     ensures { AreAfter code.now plan.now i result }
 {
     let rows = plan.rows.as_slice();
-    let mut table = [0; 128];
+    let mut table = [0; MOST_REGISTERS];
     fill(&mut table, places_at(rows, i));
     put(&mut table, written_at(code, i), write_at(rows, i));
     table

@@ -1,40 +1,54 @@
 //! How many glue words a plan has with more or fewer places in all.
 
-ghost use Rattle.std.specs.Prelude.{ℕ, ◌≡◌, ◌+◌, ◌*◌, ◌<◌, ◌≤◌, IfOk, length, slice_get, slice_index};
+ghost use Rattle.std.specs.Prelude.{ℕ, ◌≡◌, ◌+◌, ◌-◌, ◌*◌, ◌<◌, ◌≤◌, IfOk, length, slice_get, slice_index};
+ghost use Rattle.micro_isa.specs.declared.limits.TheConstants.{MOST_FILE, MOST_INSTRUCTIONS};
+ghost use Rattle.budget.specs.declared.TheConstants.{SIZES};
 ghost use Rattle.flow_graph.specs.Paths.{IsClosedCode};
 ghost use Rattle.plan.specs.ValidPlans.{IsValidPlan};
 ghost use Rattle.emitted.specs.Edges.{next_at};
 ghost use Rattle.emitted.specs.Words.{glue_of};
+ghost use Rattle.emit.specs.Limits.{most_glue, most_line_glue};
 ghost use Rattle.emit.specs.Sized.{AreCostsTo, AreFew, glue_with, with_places};
 
 use crate::after::places_after;
 use crate::edge_costs::{EdgeCosts, costs_to, steps_with};
 use crate::rows::next_at;
 use crate::sizes::with_jump;
+use budget::SIZE_COUNT;
 use micro_isa::{Line, NoMemory, Program};
 use plan::Plan;
 use std::alloc::Global;
 
 /// How many glue words a valid plan has with `from` places in all, with one more, and so on: its
 /// rows are the same, and more places leave more edges a free one.
-pub fn glues(alloc: Global, program: &Program, plan: &Plan, from: u32) -> Result<[u32; 8], NoMemory>
+pub fn glues(
+    alloc: Global,
+    program: &Program,
+    plan: &Plan,
+    from: u32,
+) -> Result<[u32; SIZE_COUNT], NoMemory>
     requires closed { IsClosedCode program.now.code }
     requires valid { IsValidPlan program.now.code plan.now }
-    requires small { from ≤ 128 }
-    ensures numbers { IfOk result (λ glues. (j : ℕ) → j < 8 → slice_index glues j ≡ glue_of program.now.code (with_places plan.now (from + j))) }
-    ensures few { IfOk result (λ glues. (j : ℕ) → slice_index glues j ≤ 763 * 2048) }
+    requires small { from ≤ MOST_FILE }
+    ensures numbers { IfOk result (λ glues. (j : ℕ) → j < SIZES → slice_index glues j ≡ glue_of program.now.code (with_places plan.now (from + j))) }
+    ensures few { IfOk result (λ glues. (j : ℕ) → slice_index glues j ≤ most_glue) }
 {
     glues_of(alloc, program.code.as_slice(), plan, from)
 }
 
-fn glues_of(alloc: Global, code: &[Line], plan: &Plan, from: u32) -> Result<[u32; 8], NoMemory>
+fn glues_of(
+    alloc: Global,
+    code: &[Line],
+    plan: &Plan,
+    from: u32,
+) -> Result<[u32; SIZE_COUNT], NoMemory>
     requires closed { IsClosedCode code.now }
     requires valid { IsValidPlan code.now plan.now }
-    requires small { from ≤ 128 }
-    ensures numbers { IfOk result (λ glues. (j : ℕ) → j < 8 → slice_index glues j ≡ glue_of code.now (with_places plan.now (from + j))) }
-    ensures few { IfOk result (λ glues. (j : ℕ) → slice_index glues j ≤ 763 * 2048) }
+    requires small { from ≤ MOST_FILE }
+    ensures numbers { IfOk result (λ glues. (j : ℕ) → j < SIZES → slice_index glues j ≡ glue_of code.now (with_places plan.now (from + j))) }
+    ensures few { IfOk result (λ glues. (j : ℕ) → slice_index glues j ≤ most_glue) }
 {
-    let mut glues = [0u32; 8];
+    let mut glues = [0u32; SIZE_COUNT];
     for i in 0..code.len() {
         let (fall, jump) = edges_at(alloc, code, plan, i)?;
         add(&mut glues, fall, jump, from);
@@ -43,7 +57,7 @@ fn glues_of(alloc: Global, code: &[Line], plan: &Plan, from: u32) -> Result<[u32
 }
 
 /// What the edges of instruction `i` cost: where it falls through, and where it jumps.
-fn edges_at(
+pub(crate) fn edges_at(
     alloc: Global,
     code: &[Line],
     plan: &Plan,
@@ -63,15 +77,15 @@ fn edges_at(
 }
 
 /// Adds the glue words of an instruction with these edges, for each number of places.
-fn add(glues: &mut [u32; 8], fall: EdgeCosts, jump: EdgeCosts, from: u32)
+fn add(glues: &mut [u32; SIZE_COUNT], fall: EdgeCosts, jump: EdgeCosts, from: u32)
     requires fall { AreFew fall }
     requires jump { AreFew jump }
-    requires small { from ≤ 128 }
-    requires few { (j : ℕ) → slice_index glues.old j ≤ 763 * 2047 }
-    ensures more { (j : ℕ) → j < 8 → slice_index glues.new j ≡ slice_index glues.old j + glue_with fall jump (from + j) }
-    ensures few { (j : ℕ) → slice_index glues.new j ≤ slice_index glues.old j + 763 }
+    requires small { from ≤ MOST_FILE }
+    requires few { (j : ℕ) → slice_index glues.old j ≤ most_line_glue * (MOST_INSTRUCTIONS - 1) }
+    ensures more { (j : ℕ) → j < SIZES → slice_index glues.new j ≡ slice_index glues.old j + glue_with fall jump (from + j) }
+    ensures few { (j : ℕ) → slice_index glues.new j ≤ slice_index glues.old j + most_line_glue }
 {
-    for j in 0..8 {
+    for j in 0..SIZE_COUNT {
         glues[j] += glue_with(fall, jump, from + j as u32);
     }
 }
@@ -81,7 +95,7 @@ fn glue_with(fall: EdgeCosts, jump: EdgeCosts, places: u32) -> u32
     requires fall { AreFew fall }
     requires jump { AreFew jump }
     ensures value { result ≡ glue_with fall jump places }
-    ensures few { result ≤ 763 }
+    ensures few { result ≤ most_line_glue }
 {
     steps_with(fall, places) + with_jump(steps_with(jump, places))
 }

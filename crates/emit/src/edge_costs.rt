@@ -1,6 +1,7 @@
 //! How many steps an edge takes, by how many places there are in all.
 
 ghost use Rattle.std.specs.Prelude.{ℕ, ◌≡◌, ◌<◌, ◌≤◌, IfOk, length, slice_index};
+ghost use Rattle.micro_isa.specs.declared.limits.TheConstants.{MOST_FILE};
 ghost use Rattle.flow_graph.specs.Paths.{Edge, IsClosedCode};
 ghost use Rattle.edge_moves.specs.ParallelMove.{AreDistinct};
 ghost use Rattle.plan.specs.ValidPlans.{IsValidPlan};
@@ -56,7 +57,7 @@ fn unnamed(pairs: &[(PReg, PReg)]) -> u32
 /// What it costs to move from these places to those of the next row.
 fn costs_of(alloc: Global, after: &Places, next: &[Place]) -> Result<EdgeCosts, NoMemory>
     requires distinct { AreDistinct (pairs_from (λ k. slice_index after.now k) next.now) }
-    requires few { length next.now ≤ 128 }
+    requires few { length next.now ≤ MOST_FILE }
     ensures { IfOk result (AreCostsOf (pairs_from (λ k. slice_index after.now k) next.now)) }
 {
     if !moves_some(after, next) {
@@ -69,7 +70,7 @@ fn costs_of(alloc: Global, after: &Places, next: &[Place]) -> Result<EdgeCosts, 
 /// What the moves of these pairs cost.
 fn costs_between(pairs: &[(PReg, PReg)]) -> EdgeCosts
     requires distinct { AreDistinct pairs.now }
-    requires few { length pairs.now ≤ 128 }
+    requires few { length pairs.now ≤ MOST_FILE }
     ensures { AreCostsOf pairs.now result }
 {
     let Costs { with_free, without } = costs(pairs);

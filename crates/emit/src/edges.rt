@@ -1,4 +1,4 @@
-//! The steps of an edge, and how many they are.
+//! The steps of an edge.
 
 ghost use Rattle.std.specs.Prelude.{ℕ, ◌≡◌, ◌==◌, ◌<◌, ◌≤◌, ◌||◌, [], IfOk, Some, false, length, slice_get, slice_index, slice_index_or};
 ghost use Rattle.flow_graph.specs.Paths.{Edge, IsClosedCode};
@@ -10,7 +10,7 @@ ghost use Rattle.emit.specs.Tables.{AreAfter};
 
 use crate::after::{Places, place_of};
 use crate::rows::places_at;
-use edge_moves::{Step, cost, sequence};
+use edge_moves::{Step, sequence};
 use micro_isa::{Line, NoMemory, PReg};
 use plan::{Place, Plan};
 use smallvec::SmallVec;
@@ -47,7 +47,7 @@ pub(crate) fn pairs_of(
 }
 
 /// Which places are a source or a target of the pairs.
-#[tactic(auto, using(crate::proofs::Naming::none_named, crate::proofs::Naming::named_next))]
+#[tactic(auto, using(edge_moves::proofs::Sources::none_marked, crate::proofs::Naming::named_next))]
 fn named_places(pairs: &[(PReg, PReg)]) -> [bool; 256]
     ensures { (q : ℕ) → slice_index_or result q false ≡ (is_source pairs.now q || is_target pairs.now q) }
 {
@@ -97,19 +97,6 @@ fn steps_of(
     sequence(alloc, pairs.as_slice(), free)
 }
 
-#[tactic(auto, using(crate::proofs::Edging::no_steps, emitted::proofs::Places::free_is))]
-fn cost_of(alloc: Global, after: &Places, next: &[Place], places: u8) -> Result<u32, NoMemory>
-    requires { AreDistinct (pairs_from (λ k. slice_index after.now k) next.now) }
-    ensures { IfOk result (λ cost. cost ≡ length (move_steps (pairs_from (λ k. slice_index after.now k) next.now) (free_from (pairs_from (λ k. slice_index after.now k) next.now) places 0))) }
-{
-    if !moves_some(after, next) {
-        return Ok(0);
-    }
-    let pairs = pairs_of(alloc, after, next)?;
-    let free = free_place(pairs.as_slice(), places);
-    Ok(cost(pairs.as_slice(), free.is_some()))
-}
-
 /// The steps from instruction `i`, after which registers are at `after`, to a successor.
 pub(crate) fn steps_to(
     alloc: Global,
@@ -133,31 +120,5 @@ pub(crate) fn steps_to(
             plan.r as u8,
         ),
         None => Ok(SmallVec::new(alloc)),
-    }
-}
-
-/// How many steps these are.
-pub(crate) fn cost_to(
-    alloc: Global,
-    code: &[Line],
-    plan: &Plan,
-    i: usize,
-    after: &Places,
-    next: Option<u32>,
-) -> Result<u32, NoMemory>
-    requires closed { IsClosedCode code.now }
-    requires valid { IsValidPlan code.now plan.now }
-    requires after { AreAfter code.now plan.now i after.now }
-    requires edges { (j : ℕ) → next ≡ Some j → Edge code.now i j }
-    ensures { IfOk result (λ cost. cost ≡ length (steps_to code.now plan.now i next)) }
-{
-    match next {
-        Some(j) => cost_of(
-            alloc,
-            after,
-            places_at(plan.rows.as_slice(), j as usize),
-            plan.r as u8,
-        ),
-        None => Ok(0),
     }
 }

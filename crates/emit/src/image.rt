@@ -1,10 +1,11 @@
 //! The image of a bundle.
 
 ghost use Rattle.std.specs.Prelude.{ℕ, ◌≡◌, ◌+◌, ◌<◌, ◌≤◌, ◌++◌, ◌∷◌, [], IfOk, OnOk, length, sum, slice_get};
+ghost use Rattle.micro_isa.specs.declared.limits.TheConstants.{MOST_FILE};
 ghost use Rattle.micro_isa.specs.Formed.{IsFormedBundle};
 ghost use Rattle.semantics.specs.Source.{code_in};
 ghost use Rattle.micro_isa.specs.Pieces.{pieces};
-ghost use Rattle.emitted.specs.Emitted.{plan_at, start_of, size_of, context_of, emitted, ArePlans, HasRoom, IsEmitted};
+ghost use Rattle.emitted.specs.Emitted.{plan_at, start_of, size_of, context_of, emitted, ArePlans, PlansFit, IsEmitted};
 
 use crate::layout::Layout;
 use crate::rows::number_at;
@@ -27,7 +28,7 @@ pub fn emit(
 ) -> Result<Image, NoMemory>
     requires formed { IsFormedBundle bundle.now }
     requires plans { ArePlans bundle.now plans.now }
-    requires room { HasRoom bundle.now plans.now budget.now }
+    requires room { PlansFit bundle.now plans.now budget.now }
     ensures image { IfOk result (λ image. image ≡ emitted bundle.now plans.now budget.now) }
     ensures law { IfOk result (λ image. IsEmitted bundle.now plans.now budget.now image) }
 {
@@ -42,7 +43,7 @@ fn image_of(
 ) -> Result<Image, NoMemory>
     requires formed { IsFormedBundle bundle.now }
     requires plans { ArePlans bundle.now plans.now }
-    requires room { HasRoom bundle.now plans.now budget.now }
+    requires room { PlansFit bundle.now plans.now budget.now }
     ensures { IfOk result (λ image. image ≡ emitted bundle.now plans.now budget.now) }
 {
     let setting = bundle.setting.copy(alloc)?;
@@ -61,7 +62,7 @@ fn image_of(
 
 #[tactic(auto, using(crate::proofs::Imaging::next_sum, crate::proofs::Imaging::sum_more))]
 fn total(numbers: &[u32]) -> u32
-    requires { sum numbers.now ≤ 128 }
+    requires { sum numbers.now ≤ MOST_FILE }
     ensures { result ≡ sum numbers.now }
 {
     let mut total = 0u32;
@@ -97,7 +98,7 @@ fn contexts_of(
 ) -> Result<List<Code>, NoMemory>
     requires formed { IsFormedBundle bundle.now }
     requires plans { ArePlans bundle.now plans.now }
-    requires room { HasRoom bundle.now plans.now budget.now }
+    requires room { PlansFit bundle.now plans.now budget.now }
     requires shared { shared ≡ sum budget.now.private }
     ensures { IfOk result (λ contexts. contexts ≡ pieces (λ c. context_of bundle.now plans.now budget.now c ∷ []) (length bundle.now.programs)) }
 {
@@ -138,7 +139,7 @@ fn context_of(
 ) -> Result<Code, NoMemory>
     requires formed { IsFormedBundle bundle.now }
     requires plans { ArePlans bundle.now plans.now }
-    requires room { HasRoom bundle.now plans.now budget.now }
+    requires room { PlansFit bundle.now plans.now budget.now }
     requires within { c < length bundle.now.programs }
     requires start { layout.start ≡ start_of budget.now.private c }
     requires own { layout.own ≡ size_of budget.now.private c }

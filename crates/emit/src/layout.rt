@@ -1,4 +1,5 @@
 ghost use Rattle.std.specs.Prelude.{◌+◌, ◌≤◌};
+ghost use Rattle.micro_isa.specs.declared.limits.TheConstants.{MOST_FILE};
 
 /// Where a context's places lie in the file: `own` registers of its own from `start` on, and behind
 /// them the shared ones from `shared` on.
@@ -7,6 +8,6 @@ pub(crate) struct Layout {
     pub start: u32,
     pub own: u32,
     pub shared: u32,
-    ghost own_within: { start + own ≤ 128 },
-    ghost shared_within: { shared ≤ 128 },
+    ghost own_within: { start + own ≤ MOST_FILE },
+    ghost shared_within: { shared ≤ MOST_FILE },
 }

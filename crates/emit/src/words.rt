@@ -1,11 +1,12 @@
 //! The words of a context.
 
 ghost use Rattle.std.specs.Prelude.{ℕ, ◌≡◌, ◌<◌, ◌++◌, ◌∷◌, [], IfOk, OnOk, Some, length, map, slice_get};
-ghost use Rattle.flow_graph.specs.Paths.{IsClosedCode};
+ghost use Rattle.micro_isa.specs.declared.limits.TheConstants.{MOST_FILE};
+ghost use Rattle.flow_graph.specs.Paths.{Edge, IsClosedCode};
 ghost use Rattle.edge_moves.specs.Within.{StepsWithin};
 ghost use Rattle.micro_isa.specs.Pieces.{pieces};
 ghost use Rattle.plan.specs.ValidPlans.{IsValidPlan};
-ghost use Rattle.emitted.specs.Edges.{next_at, fall_steps, jump_steps};
+ghost use Rattle.emitted.specs.Edges.{next_at, steps_to};
 ghost use Rattle.emitted.specs.Words.{step_word, jump_word, target_from, piece_at, block_at, words_of_plan};
 ghost use Rattle.emit.specs.Layouts.{register_at};
 ghost use Rattle.emit.specs.Addressed.{AreAddresses};
@@ -53,7 +54,7 @@ fn push(words: &mut List<Word>, word: Word) -> Result<(), NoMemory>
 
 /// The words of an edge's steps.
 fn push_steps(words: &mut List<Word>, steps: &[Step], layout: Layout) -> Result<(), NoMemory>
-    requires { StepsWithin 128 steps.now }
+    requires { StepsWithin MOST_FILE steps.now }
     ensures { OnOk result (words.new ≡ words.old ++ map (step_word (register_at layout)) steps.now) }
 {
     for step in steps {
@@ -65,38 +66,22 @@ fn push_steps(words: &mut List<Word>, steps: &[Step], layout: Layout) -> Result<
     Ok(())
 }
 
-/// The steps where instruction `i` falls through.
-#[tactic(auto, using(crate::proofs::Edging::fall_edge))]
-fn fall_steps(
+/// The steps from instruction `i` to a successor.
+fn edge_steps(
     alloc: Global,
     code: &[Line],
     plan: &Plan,
     i: usize,
+    next: Option<u32>,
 ) -> Result<SmallVec<Step, 16, Global>, NoMemory>
     requires closed { IsClosedCode code.now }
     requires valid { IsValidPlan code.now plan.now }
     requires within { i < length code.now }
-    ensures { IfOk result (λ done. done.items ≡ fall_steps code.now plan.now i) }
+    requires edges { (j : ℕ) → next ≡ Some j → Edge code.now i j }
+    ensures { IfOk result (λ done. done.items ≡ steps_to code.now plan.now i next) }
 {
     let after = places_after(code, plan, i);
-    steps_to(alloc, code, plan, i, &after, next_at(code, i).fall)
-}
-
-/// The steps where instruction `i` jumps.
-#[tactic(auto, using(crate::proofs::Edging::jump_edge))]
-fn jump_steps(
-    alloc: Global,
-    code: &[Line],
-    plan: &Plan,
-    i: usize,
-) -> Result<SmallVec<Step, 16, Global>, NoMemory>
-    requires closed { IsClosedCode code.now }
-    requires valid { IsValidPlan code.now plan.now }
-    requires within { i < length code.now }
-    ensures { IfOk result (λ done. done.items ≡ jump_steps code.now plan.now i) }
-{
-    let after = places_after(code, plan, i);
-    steps_to(alloc, code, plan, i, &after, next_at(code, i).jump)
+    steps_to(alloc, code, plan, i, &after, next)
 }
 
 /// The counted words, each with the steps of its fall.
@@ -122,6 +107,7 @@ fn push_pieces(
 }
 
 /// The counted word of an instruction, and the steps of its fall.
+#[tactic(auto, using(crate::proofs::Edging::fall_edge))]
 fn push_piece(
     alloc: Global,
     words: &mut List<Word>,
@@ -137,7 +123,7 @@ fn push_piece(
     requires goto { (j : ℕ) → (next_at (slice_get code.now i) i).jump ≡ Some j → goto ≡ target_from code.now plan.now i j }
     ensures { OnOk result (words.new ≡ words.old ++ piece_at code.now plan.now (register_at layout) i) }
 {
-    let falls = fall_steps(alloc, code, plan, i)?;
+    let falls = edge_steps(alloc, code, plan, i, next_at(code, i).fall)?;
     push(words, counted_word(code, plan, i, goto, layout))?;
     push_steps(words, falls.as_slice(), layout)
 }
@@ -164,6 +150,7 @@ fn push_blocks(
 }
 
 /// The steps of a jump, and the jump behind them, where there are any.
+#[tactic(auto, using(crate::proofs::Edging::jump_edge))]
 fn push_block(
     alloc: Global,
     words: &mut List<Word>,
@@ -182,7 +169,7 @@ fn push_block(
     if !has_block(code, plan, addresses, i) {
         return Ok(());
     }
-    let steps = jump_steps(alloc, code, plan, i)?;
+    let steps = edge_steps(alloc, code, plan, i, next_at(code, i).jump)?;
     push_steps(words, steps.as_slice(), layout)?;
     push(words, jump_word(target_start(code, plan, addresses, i)))
 }

@@ -8,13 +8,13 @@ use Rattle.semantics.specs.Source.{code_in, code_of}
 use Rattle.plan.specs.declared.row.Plan.{Plan}
 use Rattle.budget.specs.declared.Budget.{Budget}
 use Rattle.emitted.specs.Words.{glue_of}
-use Rattle.emitted.specs.Emitted.{plan_in, plan_at, register_in, emitted, ArePlans, HasRoom, IsEmitted}
+use Rattle.emitted.specs.Emitted.{plan_in, plan_at, register_in, emitted, ArePlans, PlansFit, IsEmitted}
 use Rattle.emitted.proofs.Counting.{counted_lines, glue_words}
 use Rattle.emitted.proofs.Implementing.{words_at, implements}
 use Rattle.emitted.proofs.Locating.{locates}
 use Rattle.emitted.proofs.FormedImage.{image_formed}
 
-pub is_emitted : (b : Bundle) (plans : List Plan) (budget : Budget) → IsFormedBundle b → ArePlans b plans → HasRoom b plans budget → IsEmitted b plans budget (emitted b plans budget)
+pub is_emitted : (b : Bundle) (plans : List Plan) (budget : Budget) → IsFormedBundle b → ArePlans b plans → PlansFit b plans budget → IsEmitted b plans budget (emitted b plans budget)
 is_emitted b plans budget formed are room = record {
   implements = implements b plans budget formed are room;
   counts = record {

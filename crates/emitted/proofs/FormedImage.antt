@@ -4,6 +4,7 @@ use Rattle.std.specs.Prelude.{slice_get, option_map, nat_lt, nat_le, ◌==◌, �
 use Rattle.std.specs.List.{list_all}
 use Rattle.std.proofs.lemmas.Bool.{lt-ltb, le-leb, ltb-true, ltb-false}
 use Rattle.std.proofs.lemmas.Option.{same_Some, slice_get_within, slice_get-map}
+use Rattle.micro_isa.specs.declared.limits.TheConstants.{MOST_CONTEXTS}
 use Rattle.micro_isa.specs.declared.program.Line.{Line}
 use Rattle.micro_isa.specs.declared.program.Program.{Program}
 use Rattle.micro_isa.specs.declared.program.Bundle.{Bundle}
@@ -15,7 +16,7 @@ use Rattle.semantics.specs.Source.{code_in, code_of}
 use Rattle.plan.specs.declared.row.Plan.{Plan}
 use Rattle.budget.specs.declared.Budget.{Budget}
 use Rattle.emitted.specs.Words.{words_of_plan}
-use Rattle.emitted.specs.Emitted.{register_of, plan_at, start_of, size_of, register_in, context_of, emitted, ArePlans, HasRoom}
+use Rattle.emitted.specs.Emitted.{register_of, plan_at, start_of, size_of, register_in, context_of, emitted, ArePlans, PlansFit}
 use Rattle.emitted.proofs.Rows.{item_at}
 use Rattle.emitted.proofs.Ranges.{ends_below, in_order}
 use Rattle.emitted.proofs.FormedWords.{both, IsFormedWord, all_at, words_few, words_some, words_end, words_formed}
@@ -74,7 +75,7 @@ within_ranges start own shared s q lt = by (nat_lt q own) refl
         let most = ltb-false q own is in
         or_second (lies_in mine (shared + (q - own))) (lies_in all (shared + (q - own))) (lies all (shared + (q - own)) (omega arith) (omega arith))
 
-module _ (b : Bundle) (plans : List Plan) (budget : Budget) (formed : IsFormedBundle b) (are : ArePlans b plans) (room : HasRoom b plans budget) where
+module _ (b : Bundle) (plans : List Plan) (budget : Budget) (formed : IsFormedBundle b) (are : ArePlans b plans) (room : PlansFit b plans budget) where
   abbrev m : Image
   m = emitted b plans budget
 
@@ -140,7 +141,7 @@ module _ (b : Bundle) (plans : List Plan) (budget : Budget) (formed : IsFormedBu
         small = formed.small;
         setting = formed.setting;
         some = subst (λ n. 1 ≤ n) (sym few) formed.some;
-        few = subst (λ n. n ≤ 8) (sym few) formed.few;
+        few = subst (λ n. n ≤ MOST_CONTEXTS) (sym few) formed.few;
         shared = room.file;
         apart = ranges_apart;
         contexts = λ c code is.

@@ -29,7 +29,7 @@ use Rattle.budget.specs.declared.Budget.{Budget}
 use Rattle.micro_isa.specs.Pieces.{pieces, total}
 use Rattle.emitted.specs.Edges.{row_at}
 use Rattle.emitted.specs.Words.{words_of_plan}
-use Rattle.emitted.specs.Emitted.{plan_in, plan_at, start_of, size_of, register_in, context_of, emitted, ArePlans, HasRoom}
+use Rattle.emitted.specs.Emitted.{plan_in, plan_at, start_of, size_of, register_in, context_of, emitted, ArePlans, PlansFit}
 use Rattle.emitted.proofs.Standing.{Laid, EdgeWords, Suspended}
 use Rattle.emitted.proofs.Follow.{Carries}
 use Rattle.emitted.proofs.Contexts.{AllCarried, Related, simulates}
@@ -61,7 +61,7 @@ get-replicate zero i p lt = absurd (omega arith)
 get-replicate (suc n) zero p lt = refl
 get-replicate (suc n) (suc i) p lt = get-replicate n i p (omega arith)
 
-module _ (b : Bundle) (plans : List Plan) (budget : Budget) (formed : IsFormedBundle b) (are : ArePlans b plans) (room : HasRoom b plans budget) where
+module _ (b : Bundle) (plans : List Plan) (budget : Budget) (formed : IsFormedBundle b) (are : ArePlans b plans) (room : PlansFit b plans budget) where
   abbrev m : Image
   m = emitted b plans budget
 

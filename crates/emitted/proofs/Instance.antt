@@ -12,7 +12,7 @@ use Rattle.flow_graph.specs.Paths.{GoesTo}
 use Rattle.liveness.specs.Liveness.{Reads, Writes, LiveIn}
 use Rattle.plan.specs.declared.row.Place.{Place}
 use Rattle.plan.specs.declared.row.PlanRow.{PlanRow}
-use Rattle.liveness.specs.Surviving.{SwitchesAt, WritesAt, Stays}
+use Rattle.liveness.specs.Surviving.{SwitchesAt, WritesAt, Stays, Crosses}
 use Rattle.liveness.specs.Sets.{Lists}
 use Rattle.plan.specs.ValidPlans.{place_in, IsValidRow, IsValidPlan}
 use Rattle.emitted.proofs.Rows.{live_before}
@@ -194,19 +194,25 @@ row_0 = record {
   private = λ k c. omega arith;
 }
 
-row_1 : IsValidRow code 1 2 1 (record { places = record { register = x; place = 0 } ∷ []; write = None })
-row_1 = record {
-  lists = lists_one (LiveIn code 1) 0 x_at_1 live_1;
-  writes = quiet 1 _ refl refl;
-  in_range = λ q c. placed_one (record { register = x; place = 0 }) q (omega arith) c;
+-- one register is live, and nothing is written
+row_alone : (i : ℕ) (v : VReg) (l : Line) → slice_get code i ≡ Some l → written_by l.instr ≡ None → LiveIn code i v.0 → ((k : ℕ) → LiveIn code i k → k ≡ v.0)
+    → ((k : ℕ) → Crosses code i k → place_in (record { register = v; place = 0 } ∷ []) k < 1)
+    → IsValidRow code 1 2 i (record { places = record { register = v; place = 0 } ∷ []; write = None })
+row_alone i v l is none here live private = record {
+  lists = lists_one (LiveIn code i) v.0 here live;
+  writes = quiet i l is none;
+  in_range = λ q c. placed_one (record { register = v; place = 0 }) q (omega arith) c;
   write_in_range = λ w e. absurd (cc);
   apart = distinct_one 0;
   write_apart = λ k w s e. absurd (cc);
-  private = λ k c. elim c [
-    | inl s ↦ subst (λ n. place_in (record { register = x; place = 0 } ∷ []) n < 1) (sym (live_2 k (stays_live 1 k 2 _ refl (inl refl) (inr refl) s.1))) (omega arith)
-    | inr e ↦ let zero_one = e.0 in absurd (omega arith)
-  ];
+  private = private;
 }
+
+row_1 : IsValidRow code 1 2 1 (record { places = record { register = x; place = 0 } ∷ []; write = None })
+row_1 = row_alone 1 x _ refl refl x_at_1 live_1 (λ k c. elim c [
+  | inl s ↦ subst (λ n. place_in (record { register = x; place = 0 } ∷ []) n < 1) (sym (live_2 k (stays_live 1 k 2 _ refl (inl refl) (inr refl) s.1))) (omega arith)
+  | inr e ↦ let zero_one = e.0 in absurd (omega arith)
+])
 
 row_2 : IsValidRow code 1 2 2 (record { places = record { register = x; place = 0 } ∷ []; write = Some 1 })
 row_2 = record {
@@ -240,32 +246,16 @@ row_3 = record {
 }
 
 row_4 : IsValidRow code 1 2 4 (record { places = record { register = y; place = 0 } ∷ []; write = None })
-row_4 = record {
-  lists = lists_one (LiveIn code 4) 1 y_at_4 live_4;
-  writes = quiet 4 _ refl refl;
-  in_range = λ q c. placed_one (record { register = y; place = 0 }) q (omega arith) c;
-  write_in_range = λ w e. absurd (cc);
-  apart = distinct_one 0;
-  write_apart = λ k w s e. absurd (cc);
-  private = λ k c. elim c [
-    | inl s ↦ subst (λ n. place_in (record { register = y; place = 0 } ∷ []) n < 1) (sym (live_5 k (stays_live 4 k 5 _ refl (inl refl) (inr refl) s.1))) (omega arith)
-    | inr e ↦ let zero_four = e.0 in absurd (omega arith)
-  ];
-}
+row_4 = row_alone 4 y _ refl refl y_at_4 live_4 (λ k c. elim c [
+  | inl s ↦ subst (λ n. place_in (record { register = y; place = 0 } ∷ []) n < 1) (sym (live_5 k (stays_live 4 k 5 _ refl (inl refl) (inr refl) s.1))) (omega arith)
+  | inr e ↦ let zero_four = e.0 in absurd (omega arith)
+])
 
 row_5 : IsValidRow code 1 2 5 (record { places = record { register = y; place = 0 } ∷ []; write = None })
-row_5 = record {
-  lists = lists_one (LiveIn code 5) 1 y_at_5 live_5;
-  writes = quiet 5 _ refl refl;
-  in_range = λ q c. placed_one (record { register = y; place = 0 }) q (omega arith) c;
-  write_in_range = λ w e. absurd (cc);
-  apart = distinct_one 0;
-  write_apart = λ k w s e. absurd (cc);
-  private = λ k c. elim c [
-    | inl s ↦ absurd (live_6 k (stays_live 5 k 6 _ refl (inl refl) (inr refl) s.1))
-    | inr e ↦ let zero_five = e.0 in absurd (omega arith)
-  ];
-}
+row_5 = row_alone 5 y _ refl refl y_at_5 live_5 (λ k c. elim c [
+  | inl s ↦ absurd (live_6 k (stays_live 5 k 6 _ refl (inl refl) (inr refl) s.1))
+  | inr e ↦ let zero_five = e.0 in absurd (omega arith)
+])
 
 row_6 : IsValidRow code 1 2 6 (record { places = []; write = None })
 row_6 = record {

@@ -21,7 +21,7 @@ use Rattle.budget.specs.declared.Budget.{Budget}
 use Rattle.emitted.specs.Edges.{row_at, place_or_zero}
 use Rattle.emitted.specs.Words.{address}
 use Rattle.emitted.specs.Located.{register_at, StandsAt, IsLocated}
-use Rattle.emitted.specs.Emitted.{plan_at, register_in, emitted, ArePlans, HasRoom, Locates}
+use Rattle.emitted.specs.Emitted.{plan_at, register_in, emitted, ArePlans, PlansFit, Locates}
 use Rattle.emitted.proofs.Glue.{OnFile}
 use Rattle.emitted.proofs.Standing.{IsOther, Arrives, Suspended}
 use Rattle.emitted.proofs.Contexts.{has_ended_at, One, CutAt, Related}
@@ -62,7 +62,7 @@ module _ (code : List Line) (plan : Plan) (size : ℕ) (reg : ℕ → PReg) wher
     },
   )
 
-module _ (b : Bundle) (plans : List Plan) (budget : Budget) (formed : IsFormedBundle b) (are : ArePlans b plans) (room : HasRoom b plans budget) where
+module _ (b : Bundle) (plans : List Plan) (budget : Budget) (formed : IsFormedBundle b) (are : ArePlans b plans) (room : PlansFit b plans budget) where
   located : (core : Core) (xs : Contexts) (y : Machine) → Related (emitted b plans budget) (laids b plans budget formed are room) b.file (register_in budget) core xs y → (c : ℕ) (phase : Phase) → slice_get core.phases c ≡ Some phase → has_ended phase ≡ false → IsLocated (code_of b c) (plan_at plans c) (register_in budget c) (xs c) (y.contexts c) y.file
   located core xs y r c phase is lives = by core.over refl
     where

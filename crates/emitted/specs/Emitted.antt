@@ -69,7 +69,7 @@ pub record ArePlans (b : Bundle) (plans : List Plan) : Type 0 where
       → IsValidPlan p.code plan
 
 -- the plans have room in the budget, and the budget has in the file
-pub record HasRoom (b : Bundle) (plans : List Plan) (budget : Budget) : Type 0 where
+pub record PlansFit (b : Bundle) (plans : List Plan) (budget : Budget) : Type 0 where
   pub one_each : length budget.private ≡ length b.programs
   pub each : (c : ℕ) (plan : Plan) → slice_get plans c ≡ Some plan →
       (plan.p ≤ size_of budget.private c) × (plan.r ≤ size_of budget.private c + budget.shared)
@@ -105,5 +105,5 @@ pub record IsEmitted (b : Bundle) (plans : List Plan) (budget : Budget) (m : Ima
 -- valid plans that have room in a budget give such an image
 abbrev pub EmittedLaw : Type 0
 EmittedLaw =
-    (b : Bundle) (plans : List Plan) (budget : Budget) → IsFormedBundle b → ArePlans b plans → HasRoom b plans budget
+    (b : Bundle) (plans : List Plan) (budget : Budget) → IsFormedBundle b → ArePlans b plans → PlansFit b plans budget
     → IsEmitted b plans budget (emitted b plans budget)

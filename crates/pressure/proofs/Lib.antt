@@ -4,3 +4,4 @@ pub mod Ringing
 pub mod Flooding
 pub mod Numbering
 pub mod Switching
+pub mod Unique

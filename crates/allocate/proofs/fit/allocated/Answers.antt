@@ -1,13 +1,11 @@
 use Rattle.std.proofs.Common.{◌≡◌, ℕ, List, length, refl, sym, ap, ◌∙◌, subst}
 use Rattle.micro_isa.specs.declared.program.Program.{Program}
 use Rattle.plan.specs.declared.row.Plan.{Plan}
-use Rattle.emitted.specs.Emitted.{ArePlans, HasRoom, emitted}
+use Rattle.emitted.specs.Emitted.{ArePlans, PlansFit, emitted}
 use Rattle.allocate.specs.Items.{AreClosed}
-use Rattle.allocate.specs.Needs.{AreValid}
 use Rattle.allocate.specs.Tables.{AreChosen}
-use Rattle.allocate.specs.Allocations.{glue_of_all}
 use Rattle.allocate.proofs.Allocating.{is_allocation}
-use Rattle.allocate.proofs.Rooming.{are_plans, are_valid, has_room}
+use Rattle.allocate.proofs.Rooming.{are_plans, has_room}
 use Rattle.allocate.proofs.Zipping.{all_closed}
 use Rattle.allocate.proofs.fit.allocated.Goals as goal
 
@@ -19,21 +17,13 @@ chosen_of : (programs others : List Program) (sizes more : List ℕ) (shared : �
 chosen_of programs others sizes more shared plans e f chosen =
     subst (λ ss. AreChosen others ss shared (length others) plans) f (subst (λ (ps : List Program). AreChosen ps sizes shared (length ps) plans) e chosen)
 
-pub glue_of_all-requires-clause-valid : goal.glue_of_all-requires-clause-valid
-glue_of_all-requires-clause-valid c =
-    let b = c.args.bundle.now in
-    let budget = c.args.budget in
-    let plans = c.in_ok-plans.plans in
-    let chosen = chosen_of c.as_slice-programs.result.now b.programs c.as_slice-sizes.result.now budget.private budget.shared plans c.as_slice-programs.ensures c.as_slice-sizes.ensures c.in_ok-plans.ensures in
-    subst (AreValid b.programs) (sym c.as_slice.ensures) (are_valid b budget.private budget.shared plans chosen)
-
 pub emit-requires-clause-plans : goal.emit-requires-clause-plans
 emit-requires-clause-plans c =
     let b = c.args.bundle.now in
     let budget = c.args.budget in
     let plans = c.in_ok-plans.plans in
     let chosen = chosen_of c.as_slice-programs.result.now b.programs c.as_slice-sizes.result.now budget.private budget.shared plans c.as_slice-programs.ensures c.as_slice-sizes.ensures c.in_ok-plans.ensures in
-    subst (ArePlans b) (sym c.as_slice-2.ensures) (are_plans b budget.private budget.shared plans chosen)
+    subst (ArePlans b) (sym c.as_slice.ensures) (are_plans b budget.private budget.shared plans chosen)
 
 pub emit-requires-clause-room : goal.emit-requires-clause-room
 emit-requires-clause-room c =
@@ -41,7 +31,7 @@ emit-requires-clause-room c =
     let budget = c.args.budget in
     let plans = c.in_ok-plans.plans in
     let chosen = chosen_of c.as_slice-programs.result.now b.programs c.as_slice-sizes.result.now budget.private budget.shared plans c.as_slice-programs.ensures c.as_slice-sizes.ensures c.in_ok-plans.ensures in
-    subst (λ ps. HasRoom b ps budget) (sym c.as_slice-2.ensures)
+    subst (λ ps. PlansFit b ps budget) (sym c.as_slice.ensures)
     (has_room b budget.private budget.shared plans chosen c.args.analysis.now.parts c.requires.pressures c.requires.preferred.fits budget refl refl)
 
 pub returns-clause-allocation : goal.returns-clause-allocation
@@ -50,5 +40,5 @@ returns-clause-allocation c =
     let budget = c.args.budget in
     let plans = c.in_ok-plans.plans in
     let chosen = chosen_of c.as_slice-programs.result.now b.programs c.as_slice-sizes.result.now budget.private budget.shared plans c.as_slice-programs.ensures c.as_slice-sizes.ensures c.in_ok-plans.ensures in
-    is_allocation b c.args.analysis.now.parts plans budget c.in_ok-image.image c.in_ok-glue.glue c.args.need c.requires.pressures c.requires.preferred chosen c.requires.need c.requires.fits
-    (c.in_ok-glue.ensures ∙ ap (glue_of_all b) c.as_slice.ensures) (c.in_ok-image.ensures.image ∙ ap (λ ps. emitted b ps budget) c.as_slice-2.ensures)
+    is_allocation b c.args.analysis.now.parts plans budget c.in_ok-image.image c.args.need c.requires.formed c.requires.pressures c.requires.preferred chosen c.requires.need c.requires.fits
+    (c.in_ok-image.ensures.image ∙ ap (λ ps. emitted b ps budget) c.as_slice.ensures)

@@ -1,6 +1,7 @@
 use Rattle.std.proofs.Common.{ℕ, get_or, arith}
 use Rattle.std.specs.Prelude.{IfOk, Result, Ok, Err, slice_index}
 use Rattle.std.proofs.lemmas.Option.{slice_get-get_or}
+use Rattle.micro_isa.specs.declared.limits.TheConstants.{MOST_FILE}
 use Rattle.liveness.specs.Lives.{IsLiveOf}
 use Rattle.pressure.specs.declared.pressure_of.Pressure.{Pressure}
 use Rattle.pressure.specs.Pressures.{IsPressureOf}
@@ -33,19 +34,19 @@ plan_of-requires-clause-part c =
 
 pub bounds-sizes-c : goal.bounds-sizes-c
 bounds-sizes-c c =
-    let same = long_sizes c.args.parts.now 128 c.args.sizes.now c.args.shared c.requires.fits in
+    let same = long_sizes c.args.parts.now MOST_FILE c.args.sizes.now c.args.shared c.requires.fits in
     let lt = long IsPressureOf c.args.programs.now c.args.parts.now c.args.c c.requires.parts c.requires.within in
     omega arith
 
 pub plan_of-requires-clause-own : goal.plan_of-requires-clause-own
 plan_of-requires-clause-own c =
     let none : Pressure = record { private = 0; all = 0 } in
-    (is_given c.args.parts.now 128 c.args.sizes.now c.args.shared c.args.c none c.requires.fits (long IsPressureOf c.args.programs.now c.args.parts.now c.args.c c.requires.parts c.requires.within)).own
+    (is_given c.args.parts.now MOST_FILE c.args.sizes.now c.args.shared c.args.c none c.requires.fits (long IsPressureOf c.args.programs.now c.args.parts.now c.args.c c.requires.parts c.requires.within)).own
 
 pub plan_of-requires-clause-whole : goal.plan_of-requires-clause-whole
 plan_of-requires-clause-whole c =
     let none : Pressure = record { private = 0; all = 0 } in
-    (is_given c.args.parts.now 128 c.args.sizes.now c.args.shared c.args.c none c.requires.fits (long IsPressureOf c.args.programs.now c.args.parts.now c.args.c c.requires.parts c.requires.within)).whole
+    (is_given c.args.parts.now MOST_FILE c.args.sizes.now c.args.shared c.args.c none c.requires.fits (long IsPressureOf c.args.programs.now c.args.parts.now c.args.c c.requires.parts c.requires.within)).whole
 
 both_ok : {E : Type 0} (P Q R : Plan → Type 0) → ((plan : Plan) → P plan → Q plan → R plan) → (r : Result Plan E) → IfOk r P → IfOk r Q → IfOk r R
 both_ok P Q R on (Ok plan) p q = on plan p q

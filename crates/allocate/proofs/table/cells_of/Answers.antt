@@ -1,5 +1,6 @@
-use Rattle.std.proofs.Common.{◌≡◌, ℕ, List, replicate, sym, ◌∙◌, subst}
+use Rattle.std.proofs.Common.{◌*◌, ◌≡◌, ℕ, List, replicate, sym, ◌∙◌, subst}
 use Rattle.std.proofs.lemmas.Result.{IfOk-weaker}
+use Rattle.budget.specs.declared.TheConstants.{SIZES}
 use Rattle.micro_isa.specs.declared.program.Line.{Line}
 use Rattle.range_colour.specs.Fits.{IsFit}
 use Rattle.range_colour.specs.Groups.{Every}
@@ -12,5 +13,5 @@ returns-then-fits c =
     let code = c.args.program.now.code in
     let fit = subst (λ (l : List Line). IsFit l Every c.in_ok-whole.whole) c.as_slice.ensures c.in_ok-whole.ensures in
     let rows = free_rows code c.args.live.now c.in_ok-whole.whole c.args.part c.args.most c.requires.closed c.requires.live fit c.requires.most (sym c.fits.ensures ∙ c.if-fits.true) in
-    IfOk-weaker c.free_cells.result (λ (cells : List ℕ). cells ≡ replicate 64 0) (AreRows code c.args.part c.args.most 8)
-    (λ cells is. subst (AreRows code c.args.part c.args.most 8) (sym is) rows) c.free_cells.ensures
+    IfOk-weaker c.free_cells.result (λ (cells : List ℕ). cells ≡ replicate (SIZES * SIZES) 0) (AreRows code c.args.part c.args.most SIZES)
+    (λ cells is. subst (AreRows code c.args.part c.args.most SIZES) (sym is) rows) c.free_cells.ensures

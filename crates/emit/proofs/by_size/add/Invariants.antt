@@ -1,5 +1,6 @@
 use Rattle.std.proofs.Common.{◌≡◌, ◌+◌, ◌<◌, ◌≤◌, ℕ, length}
 use Rattle.std.specs.Prelude.{slice_index}
+use Rattle.emit.specs.Limits.{most_line_glue}
 use Rattle.emit.specs.Sized.{glue_with}
 use Rattle.emit.proofs.by_size.add.Given as goal
 
@@ -7,5 +8,5 @@ abbrev pub invariant-loop-j : goal.invariant-loop-j
 invariant-loop-j l = record {
   more : (k : ℕ) → k < l.j → slice_index l.glues k ≡ slice_index l.initial.glues k + glue_with l.fall l.jump (l.from + k);
   same : (k : ℕ) → l.j ≤ k → slice_index l.glues k ≡ slice_index l.initial.glues k;
-  few : (k : ℕ) → slice_index l.glues k ≤ slice_index l.initial.glues k + 763;
+  few : (k : ℕ) → slice_index l.glues k ≤ slice_index l.initial.glues k + most_line_glue;
 }

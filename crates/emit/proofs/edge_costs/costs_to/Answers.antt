@@ -1,5 +1,6 @@
 use Rattle.std.proofs.Common.{◌≤◌, length, List, ◌∙◌, sym, ap, subst}
 use Rattle.std.specs.Prelude.{slice_get, slice_index}
+use Rattle.micro_isa.specs.declared.limits.TheConstants.{MOST_FILE}
 use Rattle.edge_moves.specs.ParallelMove.{AreDistinct}
 use Rattle.plan.specs.declared.row.Place.{Place}
 use Rattle.emitted.specs.Edges.{row_in, pairs_from}
@@ -17,4 +18,4 @@ pub costs_of-requires-clause-few : goal.costs_of-requires-clause-few
 costs_of-requires-clause-few c =
     let same = c.places_at.ensures ∙ ap (λ rs. (row_in (slice_get rs c.in-Some.j)).places) c.as_slice.ensures in
     let there = c.requires.closed.closed c.args.i c.in-Some.j (c.requires.edges c.in-Some.j c.in-Some.is) in
-    subst (λ (qs : List Place). length qs ≤ 128) (sym same) (few_listed c.args.code.now c.args.plan.now c.in-Some.j c.requires.valid there)
+    subst (λ (qs : List Place). length qs ≤ MOST_FILE) (sym same) (few_listed c.args.code.now c.args.plan.now c.in-Some.j c.requires.valid there)

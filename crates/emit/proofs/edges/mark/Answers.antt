@@ -1,5 +1,5 @@
 use Rattle.std.proofs.Common.{arith}
-use Rattle.emit.proofs.Naming.{marked}
+use Rattle.edge_moves.proofs.Sources.{marked}
 use Rattle.emit.proofs.edges.mark.Goals as goal
 
 pub returns : goal.returns
