@@ -1,6 +1,7 @@
 -- Lines of words, and the bytes that they are written with.
 use Rattle.std.specs.Prelude.{ℕ, List, [], ◌∷◌, ◌++◌, codes}
 use Rattle.std.specs.List.{flat_map}
+use Rattle.micro_kit.specs.Text.{newline}
 
 -- a line: its words from the first column on, or an instruction, which is indented
 pub data Row : Type 0 where
@@ -27,7 +28,7 @@ row_text (Flush words) = spaced words
 row_text (Indented mnemonic operands) = codes "  " ++ mnemonic ++ operands_text operands
 
 abbrev pub line_text : Row → List ℕ
-line_text row = row_text row ++ 10 ∷ []
+line_text row = row_text row ++ newline
 
 -- each line with its newline
 abbrev pub rows_text : List Row → List ℕ

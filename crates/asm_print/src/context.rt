@@ -7,8 +7,9 @@ ghost use Rattle.asm_print.specs.Canonical.{label_row, line_rows, code_rows, con
 
 use crate::instruction::put_instruction;
 use crate::names::labels_at;
-use crate::row::{put_bytes, put_flush};
+use crate::row::put_flush;
 use micro_isa::{Label, Line, List, Name, NoMemory, Program};
+use micro_kit::put_bytes;
 
 pub(crate) fn put_context(
     text: &mut Vec<u8>,

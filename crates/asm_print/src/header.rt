@@ -5,10 +5,10 @@ ghost use Rattle.micro_isa.specs.declared.program.Channel.TheVariants.{Inner};
 ghost use Rattle.asm_print.specs.Rows.{Flush, led_by, line_text, rows_text};
 ghost use Rattle.asm_print.specs.Canonical.{words_rows, input_row, output_row, channel_rows, channels_rows, header_rows};
 
-use crate::row::{put_bytes, put_flush, put_spaced};
+use crate::row::{put_flush, put_spaced};
 use itoa::Buffer;
 use micro_isa::{Bundle, Channel, List, Name, NoMemory, PortUse};
-use micro_kit::put_number;
+use micro_kit::{put_bytes, put_number};
 
 pub(crate) fn put_header(text: &mut Vec<u8>, bundle: &Bundle) -> Result<(), NoMemory>
     ensures { OnOk result (text.new.items ≡ text.old.items ++ rows_text (header_rows bundle.now)) }

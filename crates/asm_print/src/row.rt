@@ -9,12 +9,7 @@ ghost use Rattle.asm_print.specs.Canonical.{word_in};
 use crate::names::word_in;
 use asm_context::Spelt;
 use micro_isa::{NoMemory, Role};
-
-pub(crate) fn put_bytes(text: &mut Vec<u8>, bytes: &[u8]) -> Result<(), NoMemory>
-    ensures { OnOk result (text.new.items ≡ text.old.items ++ bytes.now) }
-{
-    text.extend_from_slice(bytes).map_err(|_| NoMemory)
-}
+use micro_kit::put_bytes;
 
 fn put_led_by(text: &mut Vec<u8>, gap: &[u8], words: &[&[u8]]) -> Result<(), NoMemory>
     ensures { OnOk result (text.new.items ≡ text.old.items ++ led_by gap.now (words_seen words.now)) }
