@@ -4,5 +4,6 @@ pub mod Labelling
 pub mod Naming
 pub mod Numbering
 pub mod Ordering
+pub mod Placing
 pub mod Outlining
 pub mod Steps

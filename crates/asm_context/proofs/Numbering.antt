@@ -49,7 +49,7 @@ places_all names w e = rw (lt-ltb _ _ (place_below (λ n. bytes_eq w n) names e)
 places_name : (known names : Words) (w : List ℕ) → Places (declare known w) names → Places known names
 places_name known names w held v e = held v (knows_more known v w e) ∙ place_if (knows known w) (λ n. bytes_eq v n) known (w ∷ []) e
 
-places_names : (ws known names : Words) → Places (fold declare known ws) names → Places known names
+pub places_names : (ws known names : Words) → Places (fold declare known ws) names → Places known names
 places_names [] known names held = held
 places_names (w ∷ ws) known names held = places_name known names w (places_names ws (declare known w) names held)
 

@@ -1,27 +1,22 @@
 ghost use Rattle.std.specs.Prelude.{◌≡◌, ◌++◌, ◌<◌, ◌≤◌, [], ◌∷◌, OnOk, IfOk, length, slice_index, option_map, true};
 ghost use Rattle.std.specs.List.{list_all};
 ghost use Rattle.micro_isa.specs.Names.{name_test};
-ghost use Rattle.micro_isa.specs.declared.limits.TheConstants.{MOST_CHANNELS, MOST_REGISTERS};
+ghost use Rattle.micro_isa.specs.declared.limits.TheConstants.{MOST_CHANNELS};
 ghost use Rattle.asm_lines.specs.Tables.{words_seen, place_of};
-ghost use Rattle.asm_context.specs.Programs.{register, target, instr_in, on_line, labels_from};
+ghost use Rattle.asm_context.specs.Places.{PlaceFits, PlacesFit, register_at, placed, instr_at};
+ghost use Rattle.asm_context.specs.Programs.{target, on_line, labels_from};
 ghost use Rattle.asm_context.specs.Views.{seen_extra, seen_operands, seen_form, seen_outline};
-ghost use Rattle.asm_context.specs.Spelt.{each, each_extra};
+ghost use Rattle.asm_context.specs.Spelt.{each_extra};
 ghost use Rattle.asm_lines.specs.Numbers.{number_or};
 
 use crate::form::Form;
 use crate::outline::Outline;
+use crate::said::Places;
 use crate::spelt::Spelt;
 use asm_lines::{name_of, number_or, place_of};
 use indexmap::IndexSet;
 use micro_isa::{Extra, Instr, Label, Line, List, NoMemory, Operands, VReg, instr_of};
 use std::alloc::Global;
-
-fn register<'a>(registers: &IndexSet<&'a [u8]>, name: &'a [u8]) -> VReg
-    requires { length registers.now.keys ≤ MOST_REGISTERS }
-    ensures { result ≡ register (words_seen registers.now.keys) name.now }
-{
-    VReg(place_of(registers, name) as u16)
-}
 
 fn channel<'a>(names: &IndexSet<&'a [u8]>, name: &'a [u8]) -> u8
     requires { length names.now.keys ≤ MOST_CHANNELS }
@@ -54,12 +49,12 @@ fn push_line(code: &mut List<Line>, instr: Instr<VReg>, line: u32) -> Result<(),
     }
 }
 
-fn register_if<'a>(registers: &IndexSet<&'a [u8]>, name: Option<&'a [u8]>) -> Option<VReg>
-    requires { length registers.now.keys ≤ MOST_REGISTERS }
-    ensures { result ≡ option_map (register (words_seen registers.now.keys)) (option_map (λ n. n.now) name.entry) }
+fn register_at(place: Option<usize>) -> Option<VReg>
+    requires { PlaceFits place }
+    ensures { result ≡ option_map register_at place }
 {
-    match name {
-        Some(name) => Some(register(registers, name)),
+    match place {
+        Some(place) => Some(VReg(place as u16)),
         None => None,
     }
 }
@@ -83,39 +78,39 @@ fn extra<'a>(
 
 /// What the operands of a line name.
 fn operands<'a>(
-    registers: &IndexSet<&'a [u8]>,
+    places: Places,
     names: &IndexSet<&'a [u8]>,
     all: &Outline<'a>,
     spelt: Spelt<'a>,
 ) -> Operands<VReg, u32, u8>
-    requires registers { length registers.now.keys ≤ MOST_REGISTERS }
+    requires places { PlacesFit places }
     requires channels { length names.now.keys ≤ MOST_CHANNELS }
-    ensures { result ≡ each (register (words_seen registers.now.keys)) number_or (target (seen_outline all.now)) (place_of (words_seen names.now.keys)) (seen_operands spelt.entry) }
+    ensures { result ≡ placed places (words_seen names.now.keys) (seen_outline all.now) (seen_operands spelt.entry) }
 {
     Operands {
-        to: register_if(registers, spelt.to),
-        a: register_if(registers, spelt.a),
-        b: register_if(registers, spelt.b),
+        to: register_at(places.to),
+        a: register_at(places.a),
+        b: register_at(places.b),
         extra: extra(names, all, spelt.extra),
     }
 }
 
 /// The instruction of a line, where it has one.
-fn instr_in<'a>(
-    registers: &IndexSet<&'a [u8]>,
+fn instr_at<'a>(
+    places: Places,
     names: &IndexSet<&'a [u8]>,
     all: &Outline<'a>,
     form: Form<'a>,
 ) -> Option<Instr<VReg>>
-    requires registers { length registers.now.keys ≤ MOST_REGISTERS }
+    requires places { PlacesFit places }
     requires channels { length names.now.keys ≤ MOST_CHANNELS }
-    ensures { result ≡ instr_in (words_seen registers.now.keys) (words_seen names.now.keys) (seen_outline all.now) (seen_form form.entry) }
+    ensures { result ≡ instr_at places (words_seen names.now.keys) (seen_outline all.now) (seen_form form.entry) }
 {
     match form {
         Form::Instruction {
             operation,
             operands: spelt,
-        } => instr_of(operation, operands(registers, names, all, spelt)),
+        } => instr_of(operation, operands(places, names, all, spelt)),
         _ => None,
     }
 }
@@ -124,16 +119,16 @@ fn instr_in<'a>(
 pub fn push_code<'a>(
     code: &mut List<Line>,
     line: u32,
-    registers: &IndexSet<&'a [u8]>,
+    places: Places,
     names: &IndexSet<&'a [u8]>,
     all: &Outline<'a>,
     form: Form<'a>,
 ) -> Result<(), NoMemory>
-    requires registers { length registers.now.keys ≤ MOST_REGISTERS }
+    requires places { PlacesFit places }
     requires channels { length names.now.keys ≤ MOST_CHANNELS }
-    ensures { OnOk result (code.new ≡ code.old ++ on_line line (instr_in (words_seen registers.now.keys) (words_seen names.now.keys) (seen_outline all.now) (seen_form form.entry))) }
+    ensures { OnOk result (code.new ≡ code.old ++ on_line line (instr_at places (words_seen names.now.keys) (seen_outline all.now) (seen_form form.entry))) }
 {
-    match instr_in(registers, names, all, form) {
+    match instr_at(places, names, all, form) {
         Some(instr) => push_line(code, instr, line),
         None => Ok(()),
     }

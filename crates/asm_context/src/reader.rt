@@ -39,14 +39,14 @@ fn read_line<'a>(
 {
     let body = body_of(row.words());
     let twice = has_name(&now.labels, body.label);
-    note(now, body)?;
+    let places = note(now, body)?;
     if let Some(kind) = body_fault(names, kinds, twice, now, all, row.fair(), body) {
         return Err(BundleFault::At {
             line: row.number(),
             kind,
         });
     }
-    push_code(code, row.number(), &now.registers, names, all, body.form)?;
+    push_code(code, row.number(), places, names, all, body.form)?;
     Ok(())
 }
 

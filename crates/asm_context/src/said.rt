@@ -1,6 +1,7 @@
-ghost use Rattle.std.specs.Prelude.{◌≡◌, ◌+◌, ◌<◌, OnOk, fold, option_map};
+ghost use Rattle.std.specs.Prelude.{◌≡◌, ◌+◌, ◌<◌, IfOk, OnOk, fold, option_map};
 ghost use Rattle.asm_lines.specs.Tables.{words_seen, knows, declare, one};
 ghost use Rattle.asm_context.specs.Forms.{does, registers_in};
+ghost use Rattle.asm_context.specs.Places.{place_in, places_of, places_in};
 ghost use Rattle.asm_context.specs.Said.{nothing, targets_after, count, with_body};
 ghost use Rattle.asm_context.specs.Views.{seen_operands, seen_form, seen_body, seen_said};
 ghost use Rattle.micro_isa.specs.Columns.{registers};
@@ -21,6 +22,20 @@ pub struct Said<'a> {
     pub registers: IndexSet<&'a [u8]>,
     pub done: u32,
 }
+
+/// The places of a line's registers among all.
+#[derive(Clone, Copy)]
+pub struct Places {
+    pub to: Option<usize>,
+    pub a: Option<usize>,
+    pub b: Option<usize>,
+}
+
+const NOWHERE: Places = Places {
+    to: None,
+    a: None,
+    b: None,
+};
 
 pub fn nothing<'a>(alloc: Global) -> Said<'a>
     ensures seen { seen_said result ≡ nothing }
@@ -57,30 +72,49 @@ pub fn note_label<'a>(
     Ok(())
 }
 
-fn note_registers<'a>(registers: &mut IndexSet<&'a [u8]>, form: Form<'a>) -> Result<(), NoMemory>
-    ensures { OnOk result (words_seen registers.new.keys ≡ fold declare (words_seen registers.old.keys) (registers_in (seen_form form.entry))) }
+fn note_registers<'a>(
+    registers: &mut IndexSet<&'a [u8]>,
+    form: Form<'a>,
+) -> Result<Places, NoMemory>
+    ensures registers { OnOk result (words_seen registers.new.keys ≡ fold declare (words_seen registers.old.keys) (registers_in (seen_form form.entry))) }
+    ensures places { IfOk result (λ p. p ≡ places_in (words_seen registers.new.keys) (seen_form form.entry)) }
 {
     match form {
-        Form::Instruction { operands, .. } => note_operands(registers, operands),
-        _ => Ok(()),
+        Form::Instruction { operands, .. } => match note_operands(registers, operands) {
+            Ok(places) => Ok(places),
+            Err(NoMemory) => Err(NoMemory),
+        },
+        _ => Ok(NOWHERE),
     }
 }
 
-fn note_operands<'a>(names: &mut IndexSet<&'a [u8]>, operands: Spelt<'a>) -> Result<(), NoMemory>
-    ensures { OnOk result (words_seen names.new.keys ≡ fold declare (words_seen names.old.keys) (registers (seen_operands operands.entry))) }
+fn note_operands<'a>(
+    names: &mut IndexSet<&'a [u8]>,
+    operands: Spelt<'a>,
+) -> Result<Places, NoMemory>
+    ensures names { OnOk result (words_seen names.new.keys ≡ fold declare (words_seen names.old.keys) (registers (seen_operands operands.entry))) }
+    ensures places { IfOk result (λ p. p ≡ places_of (words_seen names.new.keys) (seen_operands operands.entry)) }
 {
-    note_name(names, operands.to)?;
-    note_name(names, operands.a)?;
-    note_name(names, operands.b)
+    let to = note_name(names, operands.to)?;
+    let a = note_name(names, operands.a)?;
+    let b = note_name(names, operands.b)?;
+    Ok(Places { to, a, b })
 }
 
-fn note_name<'a>(names: &mut IndexSet<&'a [u8]>, name: Option<&'a [u8]>) -> Result<(), NoMemory>
-    ensures { OnOk result (words_seen names.new.keys ≡ fold declare (words_seen names.old.keys) (one (option_map (λ n. n.now) name.entry))) }
+fn note_name<'a>(
+    names: &mut IndexSet<&'a [u8]>,
+    name: Option<&'a [u8]>,
+) -> Result<Option<usize>, NoMemory>
+    ensures names { OnOk result (words_seen names.new.keys ≡ fold declare (words_seen names.old.keys) (one (option_map (λ n. n.now) name.entry))) }
+    ensures place { IfOk result (λ p. p ≡ place_in (words_seen names.new.keys) (option_map (λ n. n.now) name.entry)) }
 {
-    if let Some(name) = name {
-        declare(names, name)?;
+    match name {
+        Some(name) => match declare(names, name) {
+            Ok((place, _)) => Ok(Some(place)),
+            Err(NoMemory) => Err(NoMemory),
+        },
+        None => Ok(None),
     }
-    Ok(())
 }
 
 fn counted(done: u32, form: Form) -> u32
@@ -90,13 +124,14 @@ fn counted(done: u32, form: Form) -> u32
     if does(form) { done + 1 } else { done }
 }
 
-/// Notes one more line.
-pub fn note<'a>(said: &mut Said<'a>, body: Body<'a>) -> Result<(), NoMemory>
+/// Notes one more line, and answers the places of its registers.
+pub fn note<'a>(said: &mut Said<'a>, body: Body<'a>) -> Result<Places, NoMemory>
     requires { said.old.done < 4294967295 }
-    ensures { OnOk result (seen_said said.new ≡ with_body (seen_said said.old) (seen_body body.entry)) }
+    ensures said { OnOk result (seen_said said.new ≡ with_body (seen_said said.old) (seen_body body.entry)) }
+    ensures places { IfOk result (λ p. p ≡ places_in (words_seen said.new.registers.keys) (seen_form body.entry.form)) }
 {
     note_label(&mut said.labels, &mut said.targets, said.done, body.label)?;
-    note_registers(&mut said.registers, body.form)?;
+    let places = note_registers(&mut said.registers, body.form)?;
     said.done = counted(said.done, body.form);
-    Ok(())
+    Ok(places)
 }

@@ -1,6 +1,6 @@
 //! The operands of a line, as its words.
 
-ghost use Rattle.std.specs.Prelude.{◌≡◌, [], option_map};
+ghost use Rattle.std.specs.Prelude.{◌≡◌, option_map};
 ghost use Rattle.asm_lines.specs.Tables.{words_seen};
 ghost use Rattle.asm_context.specs.Spelt.{with_word, operands_in};
 ghost use Rattle.asm_context.specs.Views.{seen_operands};
@@ -21,33 +21,19 @@ const NOTHING: Operands<&'static [u8], &'static [u8], &'static [u8]> = Operands 
 pub fn operands_in<'a>(roles: &[Role], words: &[&'a [u8]]) -> Option<Spelt<'a>>
     ensures { option_map seen_operands result ≡ operands_in roles.now (words_seen words.now) }
 {
-    match roles {
-        [] => none_of(words),
-        [role, roles @ ..] => match words {
-            [] => None,
-            [word, words @ ..] => with_first(*role, word, operands_in(roles, words)),
-        },
+    if roles.len() != words.len() {
+        return None;
     }
+    let mut spelt = NOTHING;
+    let mut at = roles.len();
+    'roles: while 0 < at {
+        at -= 1;
+        spelt = with_word(roles[at], words[at], spelt);
+    }
+    Some(spelt)
 }
 
-fn none_of<'a>(words: &[&'a [u8]]) -> Option<Spelt<'a>>
-    ensures { option_map seen_operands result ≡ operands_in [] (words_seen words.now) }
-{
-    match words {
-        [] => Some(NOTHING),
-        _ => None,
-    }
-}
-
-fn with_first<'a>(role: Role, word: &'a [u8], later: Option<Spelt<'a>>) -> Option<Spelt<'a>>
-    ensures { option_map seen_operands result ≡ option_map (with_word role word.now) (option_map seen_operands later.entry) }
-{
-    match later {
-        Some(later) => Some(with_word(role, word, later)),
-        None => None,
-    }
-}
-
+#[inline(always)]
 fn with_word<'a>(role: Role, word: &'a [u8], rest: Spelt<'a>) -> Spelt<'a>
     ensures { seen_operands result ≡ with_word role word.now (seen_operands rest.entry) }
 {

@@ -171,6 +171,9 @@ pub fn form_fault<'a>(
     if !fair {
         return Some(BundleKind::Byte);
     }
+    if matches!(form, HeaderForm::Blank) {
+        return None;
+    }
     if matches!(form, HeaderForm::Unknown) {
         return Some(BundleKind::Directive);
     }
