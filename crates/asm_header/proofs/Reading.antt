@@ -1,5 +1,5 @@
 -- One line further in the header.
-use Rattle.std.proofs.Common.{◌≡◌, ◌+◌, ◌∷◌, length, fold, None, sym, ap, ◌∙◌, subst, arith}
+use Rattle.std.proofs.Common.{◌≡◌, ◌+◌, length, fold, None, sym, ap, ◌∙◌, subst, arith}
 use Rattle.asm_lines.specs.declared.fault.BundleFault.{BundleFault}
 use Rattle.asm_lines.specs.Cutting.{TextLine}
 use Rattle.asm_lines.specs.Faults.{Causes}

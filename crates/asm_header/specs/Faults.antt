@@ -1,5 +1,5 @@
 -- The first fault of the lines before the first context.
-use Rattle.std.specs.Prelude.{ℕ, ◌+◌, ◌||◌, ◌&&◌, not, nat_le, nat_lt, nat_eq, Bool, true, false, List, [], ◌∷◌, Option, Some, None, is_some, length, slice_get}
+use Rattle.std.specs.Prelude.{ℕ, ◌+◌, ◌||◌, ◌&&◌, not, nat_le, nat_lt, nat_eq, Bool, true, false, List, [], ◌∷◌, Option, Some, is_some, length, slice_get}
 use Rattle.std.specs.List.{list_any, filter_map}
 use Rattle.micro_isa.specs.declared.program.Channel.{Channel}
 use Rattle.micro_isa.specs.declared.program.Channel.TheVariants as channel
