@@ -8,8 +8,9 @@ use Rattle.edge_moves.specs.MoveSteps.{Pair, moving, first_free, without, steps_
 use Rattle.edge_moves.specs.ParallelMove.{is_target, AreDistinct, IsFree}
 use Rattle.edge_moves.specs.Costs.{LeadBack, AreCycles, pairs_of, SamePairs, cycles_cost, most_steps, CostsByCycle}
 use Rattle.edge_moves.specs.Tally.{outside, inside, openings, sum_of, counted}
-use Rattle.edge_moves.proofs.Lists.{NoneStay, stay-without, few, source_to-without, distinct-without, length-moving, distinct-moving, stay-moving, some_target}
-use Rattle.edge_moves.proofs.Parallel.{Remains, IsNoTarget, free_kept}
+use Rattle.edge_moves.proofs.Lists.{stay-without, few, source_to-without, distinct-without, length-moving, distinct-moving, stay-moving, some_target}
+use Rattle.edge_moves.specs.Remaining.{NoneStay, Remains, IsNoTarget}
+use Rattle.edge_moves.proofs.Parallel.{free_kept}
 use Rattle.edge_moves.proofs.Rings.{Run, after, Rings, exchanges, ringed, length-without-one, is_source-split}
 use Rattle.edge_moves.proofs.Openings.{free_steps, rings_openings, distinct-after}
 use Rattle.edge_moves.proofs.Outside.{same_outside, unwinds, settles, later}

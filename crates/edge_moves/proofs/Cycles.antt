@@ -36,7 +36,7 @@ into_by all (p ∷ ps) h free others t = by all p ps h free others t (into_by al
         let k = rest (grind (arith, nat_tests)) in
         (k.0, ap (λ b. if b then first_free all ps else Some p) here ∙ k.1, k.2)
 
-kept_source : (ps : List Pair) (h u q : ℕ) → AreDistinct ps → source_to ps h ≡ Some u → q ≢ u → is_source ps q ≡ true → is_source (without h ps) q ≡ true
+pub kept_source : (ps : List Pair) (h u q : ℕ) → AreDistinct ps → source_to ps h ≡ Some u → q ≢ u → is_source ps q ≡ true → is_source (without h ps) q ≡ true
 kept_source [] h u q d s ne k = absurd (cc)
 kept_source (p ∷ ps) h u q d s ne k = grind (arith, nat_tests, kept_source ps h u q, kept_all ps h q, d.1)
   where

@@ -6,6 +6,7 @@ pub mod Openings
 pub mod Orders
 pub mod Outside
 pub mod Parallel
+pub mod Marks
 pub mod Passes
 pub mod Rings
 pub mod Sources

@@ -5,6 +5,7 @@ use Rattle.std.proofs.lemmas.Bool.Decides.{nat_tests}
 use Rattle.micro_isa.specs.declared.image.PReg.{PReg}
 use Rattle.edge_moves.specs.MoveSteps.{Pair, moving, is_source, first_free, without, renamed, target_of}
 use Rattle.edge_moves.specs.ParallelMove.{source_to, held_after, is_target, AreDistinct}
+use Rattle.edge_moves.specs.Remaining.{NoneStay}
 
 pub source_to-without : (t q : ℕ) (ps : List Pair) → source_to (without t ps) q ≡ (if q == t then None else source_to ps q)
 source_to-without t q [] = grind (arith, nat_tests)
@@ -38,11 +39,6 @@ length-without-le t (p ∷ ps) = grind (arith, nat_tests, length-without-le t ps
 pub length-without : (t : ℕ) (ps : List Pair) → is_target ps t ≡ true → length (without t ps) < length ps
 length-without t [] h = absurd (cc)
 length-without t (p ∷ ps) h = grind (arith, nat_tests, length-without t ps, length-without-le t ps)
-
--- no pair moves a register to itself
-abbrev pub NoneStay : List Pair → Type 0
-NoneStay [] = Unit {0}
-NoneStay (p ∷ ps) = ((p.0).0 ≢ (p.1).0) × NoneStay ps
 
 stay-without_by : (t : ℕ) (p : Pair) (ps : List Pair) → NoneStay (p ∷ ps) → NoneStay (without t ps) → (b : Bool) → NoneStay (if not b then p ∷ without t ps else without t ps)
 stay-without_by t p ps h rest true = rest

@@ -7,7 +7,8 @@ use Rattle.edge_moves.specs.ParallelMove.{AreDistinct}
 use Rattle.edge_moves.specs.Costs.{Unwinds, SamePairs}
 use Rattle.edge_moves.specs.Tally.{taken, kept, outside, inside, left_at, opens_at, openings}
 use Rattle.edge_moves.proofs.Lists.{found, source_to-without, distinct-without, length-without}
-use Rattle.edge_moves.proofs.Parallel.{Remains, remains-without}
+use Rattle.edge_moves.specs.Remaining.{Remains}
+use Rattle.edge_moves.proofs.Parallel.{remains-without}
 use Rattle.edge_moves.proofs.Rings.{length-without-one, is_source-split}
 
 pub outside-stuck : (n : ℕ) (left : List Pair) → first_free left left ≡ None → outside n left ≡ []

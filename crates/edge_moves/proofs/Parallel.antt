@@ -10,7 +10,8 @@ use Rattle.edge_moves.specs.declared.step.Step.{Step}
 use Rattle.edge_moves.specs.declared.step.Step.TheVariants.{Xor}
 use Rattle.edge_moves.specs.MoveSteps.{Pair, moving, is_source, first_free, without, renamed, target_of, joined, Turn, open_cycle, turn_at, turn, steps_from, move_steps}
 use Rattle.edge_moves.specs.ParallelMove.{File, set_at, do_steps, source_to, held_after, moved, is_target, AreDistinct, IsFree, IsNot, ParallelMove}
-use Rattle.edge_moves.proofs.Lists.{NoneStay, Found, found, none_free, closed, source_to-without, is_source-without, is_target-without, gone-without, distinct-without, stay-without, length-without, length-without-le, source_is, no_target, some_target, is_target_none, is_source_found, source_of_target, one_target, source_to-renamed, is_target-renamed, length-renamed, distinct-renamed, stay-renamed, distinct-moving, stay-moving, length-moving, is_target-moving, moving_moves, target_at, source_at}
+use Rattle.edge_moves.specs.Remaining.{NoneStay, IsNoTarget, Remains}
+use Rattle.edge_moves.proofs.Lists.{Found, found, none_free, closed, source_to-without, is_source-without, is_target-without, gone-without, distinct-without, stay-without, length-without, length-without-le, source_is, no_target, some_target, is_target_none, is_source_found, source_of_target, one_target, source_to-renamed, is_target-renamed, length-renamed, distinct-renamed, stay-renamed, distinct-moving, stay-moving, length-moving, is_target-moving, moving_moves, target_at, source_at}
 
 -- the two halves of an exchange
 xor_back : (a b : ℕ) → bit_xor a (bit_xor b a) ≡ b
@@ -61,17 +62,6 @@ exchanged p ps d st met u to file file' sw q b is = by (source_to ps q) refl b i
     by (Some s) e true is = grind (arith, nat_tests, source_to-without u.0 q ps, from_t, sw.second, sw.first, sw.others s, d.0, d.1, source_is ps q s, some_target ps q s, one_target ps q (p.1).0 u)
     by (Some s) e false is = grind (arith, nat_tests, source_to-without u.0 q ps, from_t, sw.second, sw.first, sw.others s, d.0, d.1, source_is ps q s, some_target ps q s, one_target ps q (p.1).0 u)
 
--- the free register is no target of what remains
-abbrev pub IsNoTarget : Option PReg → List Pair → Type 0
-IsNoTarget None left = Unit {0}
-IsNoTarget (Some f) left = is_target left f.0 ≡ false
-
--- what remains is in order
-pub record Remains (free : Option PReg) (left : List Pair) : Type 0 where
-  pub distinct : AreDistinct left
-  pub stay : NoneStay left
-  pub kept : IsNoTarget free left
-
 not_target-without : (free : Option PReg) (t : ℕ) (left : List Pair) → IsNoTarget free left → IsNoTarget free (without t left)
 not_target-without None t left h = tt
 not_target-without (Some f) t left h = is_target-without t f.0 left h
@@ -90,6 +80,40 @@ remains-joined p ps d st u to false is = record {
   stay = (grind (arith, nat_tests), stay-without u.0 ps st.1);
   kept = tt;
 }
+
+pub remains-renamed : (f : PReg) (p : Pair) (ps : List Pair) → Remains (Some f) (p ∷ ps) → is_source (p ∷ ps) f.0 ≡ false → Remains (Some f) (renamed (p.1).0 f ps)
+remains-renamed f p ps r nos = record {
+  distinct = distinct-renamed (p.1).0 f ps (grind (arith, nat_tests)) r.distinct.2;
+  stay = stay-renamed (p.1).0 f ps (grind (arith, nat_tests, r.kept)) r.stay.1;
+  kept = is_target-renamed (p.1).0 f.0 f ps ∙ grind (arith, nat_tests, r.kept);
+}
+
+-- where each target is a source, the free register is none
+pub no_source : (f : PReg) (left : List Pair) → Remains (Some f) left → first_free left left ≡ None → is_source left f.0 ≡ false
+no_source f left r stuck = grind (arith, nat_tests, r.kept, closed left r.distinct stuck f.0)
+
+-- the target of the first pair is a source of the others then
+pub next_source : (free : Option PReg) (p : Pair) (ps : List Pair) → Remains free (p ∷ ps) → first_free (p ∷ ps) (p ∷ ps) ≡ None → is_source ps (p.1).0 ≡ true
+next_source free p ps r stuck =
+    let all : is_source (p ∷ ps) (p.1).0 ≡ true = none_free (p ∷ ps) (p ∷ ps) stuck (p.1).0 (grind (arith, nat_tests)) in
+    grind (arith, nat_tests, r.stay.0)
+
+remains-open : (free : Option PReg) (left : List Pair) → Remains free left → first_free left left ≡ None → Remains free (open_cycle free left).left
+remains-open free [] r stuck = r
+remains-open (Some f) (p ∷ ps) r stuck = remains-renamed f p ps r (no_source f (p ∷ ps) r stuck)
+remains-open None (p ∷ ps) r stuck = by (target_of ps (p.1).0) refl
+  where
+    by : (o : Option PReg) → target_of ps (p.1).0 ≡ o → Remains None (joined p.0 ps o)
+    by None is = record { distinct = r.distinct.2; stay = r.stay.1; kept = tt }
+    by (Some u) is = remains-joined p ps r.distinct r.stay u is (u.0 == (p.0).0) refl
+
+-- what remains after a turn is in order
+pub remains-turn : (free : Option PReg) (left : List Pair) → Remains free left → Remains free (turn free left).left
+remains-turn free left r = by (first_free left left) refl
+  where
+    by : (o : Option Pair) → first_free left left ≡ o → Remains free (turn_at free left o).left
+    by None is = remains-open free left r is
+    by (Some p) is = remains-without free (p.1).0 left r
 
 pub length-joined : (p : Pair) (ps : List Pair) (u : PReg) → is_target ps u.0 ≡ true → (b : Bool) → length (if b then without u.0 ps else (p.0, u) ∷ without u.0 ps) ≤ length ps
 length-joined p ps u h true = length-without-le u.0 ps
@@ -122,15 +146,7 @@ by_cycle None n rest (p ∷ ps) le r stuck = by_exchange n rest p ps (omega arit
 by_cycle (Some f) n rest (p ∷ ps) le r stuck = λ file q nf.
     let nos : is_source (p ∷ ps) f.0 ≡ false = no_source f (p ∷ ps) r stuck in
     let l : length (renamed (p.1).0 f ps) ≤ n = omega (arith, length-renamed (p.1).0 f ps) in
-    let r' : Remains (Some f) (renamed (p.1).0 f ps) = record {
-      distinct = distinct-renamed (p.1).0 f ps (grind (arith, nat_tests)) r.distinct.2;
-      stay = stay-renamed (p.1).0 f ps (grind (arith, nat_tests, r.kept)) r.stay.1;
-      kept = is_target-renamed (p.1).0 f.0 f ps ∙ grind (arith, nat_tests, r.kept);
-    } in
-    rest (renamed (p.1).0 f ps) l r' _ q nf ∙ opened f p ps r.distinct nos r.kept file q nf
-  where
-    no_source : (f : PReg) (left : List Pair) → Remains (Some f) left → first_free left left ≡ None → is_source left f.0 ≡ false
-    no_source f left r stuck = grind (arith, nat_tests, r.kept, closed left r.distinct stuck f.0)
+    rest (renamed (p.1).0 f ps) l (remains-renamed f p ps r nos) _ q nf ∙ opened f p ps r.distinct nos r.kept file q nf
 
 by_one : (free : Option PReg) (n : ℕ) → From free n → (left : List Pair) → length left ≤ suc n → Remains free left → (o : Option Pair) → first_free left left ≡ o → Does free (after_turn free n (turn_at free left o)) left
 by_one free n rest left le r None is = by_cycle free n rest left le r is
@@ -149,10 +165,17 @@ pub free_kept : (free : Option PReg) (pairs : List Pair) → IsFree pairs free �
 free_kept None pairs h = tt
 free_kept (Some f) pairs h = is_target-moving pairs f.0 h.1
 
+pub remains-moving : (free : Option PReg) (pairs : List Pair) → AreDistinct pairs → IsFree pairs free → Remains free (moving pairs)
+remains-moving free pairs d h = record { distinct = distinct-moving pairs d; stay = stay-moving pairs; kept = free_kept free pairs h }
+
+-- before the first turn
+pub first_turn : (free : Option PReg) (pairs left : List Pair) (ss : List Step) → ss ≡ [] → left ≡ moving pairs
+    → ss ++ steps_from free (length pairs - 0) left ≡ move_steps pairs free
+first_turn free pairs left ss none is = let same : length pairs - 0 ≡ length pairs = omega arith in rw (none, is, same)
+
 pub goes : (pairs : List Pair) (free : Option PReg) → AreDistinct pairs → IsFree pairs free → Does free (move_steps pairs free) pairs
 goes pairs free d h = λ file q nf.
-    let r : Remains free (moving pairs) = record { distinct = distinct-moving pairs d; stay = stay-moving pairs; kept = free_kept free pairs h } in
-    does free (length pairs) (moving pairs) (length-moving pairs) r file q nf ∙ moving_moves pairs q file d
+    does free (length pairs) (moving pairs) (length-moving pairs) (remains-moving free pairs d h) file q nf ∙ moving_moves pairs q file d
 
 not_free : (free : Option PReg) (pairs : List Pair) (q : ℕ) → IsFree pairs free → is_target pairs q ≡ true → IsNot free q
 not_free None pairs q h t = tt

@@ -9,7 +9,8 @@ use Rattle.edge_moves.specs.declared.step.Step.TheVariants.{Xor}
 use Rattle.edge_moves.specs.MoveSteps.{Pair, is_source, first_free, without, target_of, joined, Turn, turn_at, steps_from}
 use Rattle.edge_moves.specs.ParallelMove.{source_to, is_target, AreDistinct}
 use Rattle.edge_moves.proofs.Lists.{none_free, source_to-without, some_target, is_source_found, source_of_target}
-use Rattle.edge_moves.proofs.Parallel.{Remains, remains-joined, length-joined}
+use Rattle.edge_moves.specs.Remaining.{Remains}
+use Rattle.edge_moves.proofs.Parallel.{remains-joined, length-joined}
 use Rattle.edge_moves.proofs.Cycles.{stuck_by}
 
 pub is_target-dropped : (t q : ℕ) (ps : List Pair) → is_target (without t ps) q ≡ (if q == t then false else is_target ps q)

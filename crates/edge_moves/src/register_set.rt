@@ -1,4 +1,4 @@
-ghost use Rattle.std.specs.Prelude.{ℕ, ◌≡◌, ◌==◌, ◌||◌, false, slice_index_or};
+ghost use Rattle.std.specs.Prelude.{ℕ, ◌≡◌, ◌==◌, ◌&&◌, ◌||◌, not, false, slice_index_or};
 
 use micro_isa::PReg;
 
@@ -10,4 +10,11 @@ pub fn add(set: &mut RegisterSet, register: PReg)
     ensures { (q : ℕ) → slice_index_or set.new q false ≡ (register.0 == q || slice_index_or set.old q false) }
 {
     set[register.0 as usize] = true;
+}
+
+/// Takes a register out.
+pub fn take_out(set: &mut RegisterSet, register: PReg)
+    ensures { (q : ℕ) → slice_index_or set.new q false ≡ (not (register.0 == q) && slice_index_or set.old q false) }
+{
+    set[register.0 as usize] = false;
 }

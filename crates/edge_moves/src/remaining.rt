@@ -1,5 +1,6 @@
-ghost use Rattle.std.specs.Prelude.{ℕ, ◌≡◌, false, slice_index_or};
-ghost use Rattle.edge_moves.specs.MoveSteps.{is_source, first_free, target_of};
+ghost use Rattle.std.specs.Prelude.{◌≡◌};
+ghost use Rattle.edge_moves.specs.MoveSteps.{target_of};
+ghost use Rattle.edge_moves.specs.Remaining.{AreSources, IsFirstAt};
 
 use crate::register_set::{RegisterSet, add};
 use micro_isa::PReg;
@@ -7,7 +8,7 @@ use micro_isa::PReg;
 /// The sources of the remaining pairs.
 #[tactic(auto, using(crate::proofs::Sources::none_marked, crate::proofs::Sources::source_next))]
 pub fn sources_of(left: &[(PReg, PReg)]) -> RegisterSet
-    ensures { (q : ℕ) → slice_index_or result q false ≡ is_source left.now q }
+    ensures { AreSources left.now result }
 {
     let mut sources = [false; 256];
     for (source, _) in left {
@@ -16,14 +17,15 @@ pub fn sources_of(left: &[(PReg, PReg)]) -> RegisterSet
     sources
 }
 
-/// The first pair whose target is no source.
-pub fn first_free(left: &[(PReg, PReg)]) -> Option<(PReg, PReg)>
-    ensures { result ≡ first_free left.now left.now }
+/// The place of the first pair whose target is no source.
+pub fn first_free(left: &[(PReg, PReg)], sources: &RegisterSet) -> Option<usize>
+    requires { AreSources left.now sources.now }
+    ensures { IsFirstAt left.now result }
 {
-    let sources = sources_of(left);
-    for pair in left {
-        if !sources[pair.1.0 as usize] {
-            return Some(*pair);
+    'places: for i in 0..left.len() {
+        let (_, target) = left[i];
+        if !sources[target.0 as usize] {
+            return Some(i);
         }
     }
     None

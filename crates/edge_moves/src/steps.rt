@@ -1,10 +1,13 @@
-ghost use Rattle.std.specs.Prelude.{◌≡◌, ◌≤◌, ◌∷◌, [], ◌++◌, IfOk, OnOk, length};
-ghost use Rattle.edge_moves.specs.MoveSteps.{moving, without, renamed, joined, open_cycle, turn, move_steps};
+ghost use Rattle.std.specs.Prelude.{◌≡◌, ℕ, ◌<◌, ◌≤◌, ◌==◌, ◌&&◌, not, ◌∷◌, [], ◌++◌, Some, None, false, IfOk, OnOk, length, slice_index_or, if◌then◌else◌};
+ghost use Rattle.micro_isa.specs.declared.image.PReg.{PReg as PRegister};
+ghost use Rattle.edge_moves.specs.MoveSteps.{moving, first_free, without, renamed, joined, open_cycle, turn, move_steps};
 ghost use Rattle.edge_moves.specs.ParallelMove.{AreDistinct, IsFree, ParallelMove};
+ghost use Rattle.edge_moves.specs.Remaining.{Remains, AreSources, IsMovedAt};
 ghost use Rattle.edge_moves.specs.Within.{KeepsWithin};
 ghost use Rattle.edge_moves.specs.Costs.{most_steps};
 
-use crate::remaining::{first_free, target_of};
+use crate::register_set::{RegisterSet, add, take_out};
+use crate::remaining::{first_free, sources_of, target_of};
 use crate::step::Step;
 use micro_isa::{NoMemory, PReg};
 use smallvec::SmallVec;
@@ -29,18 +32,21 @@ pub fn sequence(
     steps_of(alloc, pairs, free)
 }
 
-/// Turn after turn, until no pair remains.
+/// Turn after turn, until no pair remains. The set of the sources is kept from turn to turn.
 fn steps_of(
     alloc: Global,
     pairs: &[(PReg, PReg)],
     free: Option<PReg>,
 ) -> Result<SmallVec<Step, 16, Global>, NoMemory>
+    requires distinct { AreDistinct pairs.now }
+    requires free { IsFree pairs.now free }
     ensures { IfOk result (λ done. done.items ≡ move_steps pairs.now free) }
 {
     let mut left = moving(alloc, pairs)?;
+    let mut sources = sources_of(left.as_slice());
     let mut steps = SmallVec::new(alloc);
     for _ in 0..pairs.len() {
-        turn(&mut left, &mut steps, free)?;
+        turn(&mut left, &mut sources, &mut steps, free)?;
     }
     Ok(steps)
 }
@@ -61,30 +67,60 @@ fn moving(alloc: Global, pairs: &[(PReg, PReg)]) -> Result<Vec<(PReg, PReg)>, No
 /// One move whose target is no source, or else what opens a cycle.
 fn turn(
     left: &mut Vec<(PReg, PReg)>,
+    sources: &mut RegisterSet,
     steps: &mut SmallVec<Step, 16, Global>,
     free: Option<PReg>,
 ) -> Result<(), NoMemory>
+    requires remains { Remains free left.old.items }
+    requires sources { AreSources left.old.items sources.old }
     ensures left { OnOk result (left.new.items ≡ (turn free left.old.items).left) }
     ensures steps { OnOk result (steps.new.items ≡ steps.old.items ++ (turn free left.old.items).steps) }
+    ensures sources { OnOk result (AreSources left.new.items sources.new) }
 {
-    match first_free(left.as_slice()) {
-        Some((from, target)) => {
-            push(steps, Step::Mov { to: target, from })?;
-            remove_to(left, target);
+    match first_free(left.as_slice(), sources) {
+        Some(at) => {
+            move_at(left, sources, steps, at)?;
             Ok(())
         }
-        None => open_cycle(left, steps, free),
+        None => {
+            open_cycle(left, sources, steps, free)?;
+            Ok(())
+        }
     }
+}
+
+/// The move of the pair at this place, whose target is no source.
+fn move_at(
+    left: &mut Vec<(PReg, PReg)>,
+    sources: &mut RegisterSet,
+    steps: &mut SmallVec<Step, 16, Global>,
+    at: usize,
+) -> Result<(), NoMemory>
+    requires distinct { AreDistinct left.old.items }
+    requires sources { AreSources left.old.items sources.old }
+    requires here { at < length left.old.items }
+    ensures moved { OnOk result (IsMovedAt left.old.items at left.new.items steps.old.items steps.new.items) }
+    ensures sources { OnOk result (AreSources left.new.items sources.new) }
+{
+    let (from, to) = left.remove(at);
+    take_out(sources, from);
+    push(steps, Step::Mov { to, from })?;
+    Ok(())
 }
 
 /// Opens a cycle at the first remaining pair: with the free register, or by an exchange.
 fn open_cycle(
     left: &mut Vec<(PReg, PReg)>,
+    sources: &mut RegisterSet,
     steps: &mut SmallVec<Step, 16, Global>,
     free: Option<PReg>,
 ) -> Result<(), NoMemory>
+    requires remains { Remains free left.old.items }
+    requires sources { AreSources left.old.items sources.old }
+    requires stuck { first_free left.old.items left.old.items ≡ None }
     ensures left { OnOk result (left.new.items ≡ (open_cycle free left.old.items).left) }
     ensures steps { OnOk result (steps.new.items ≡ steps.old.items ++ (open_cycle free left.old.items).steps) }
+    ensures sources { OnOk result (AreSources left.new.items sources.new) }
 {
     if left.is_empty() {
         return Ok(());
@@ -95,6 +131,9 @@ fn open_cycle(
             push(steps, Step::Mov { to: free, from: to })?;
             push(steps, Step::Mov { to, from })?;
             rename(left, to, free);
+            take_out(sources, from);
+            take_out(sources, to);
+            add(sources, free);
             Ok(())
         }
         None => {
@@ -102,8 +141,23 @@ fn open_cycle(
             push(steps, Step::Xor { to, with: from })?;
             push(steps, Step::Xor { to: from, with: to })?;
             let target = target_of(left.as_slice(), to);
-            join(left, from, target)
+            take_out(sources, to);
+            take_out_if_last(sources, from, target);
+            join(left, from, target)?;
+            Ok(())
         }
+    }
+}
+
+/// Takes the source of an exchange out, where the value that came there need go no further.
+fn take_out_if_last(sources: &mut RegisterSet, source: PReg, target: Option<PReg>)
+    ensures { (u : PRegister) → target ≡ Some u → (q : ℕ) → slice_index_or sources.new q false
+        ≡ (if u.0 == source.0 then (not (source.0 == q) && slice_index_or sources.old q false) else slice_index_or sources.old q false) }
+{
+    if let Some(target) = target
+        && target.0 == source.0
+    {
+        take_out(sources, source);
     }
 }
 

@@ -24,7 +24,7 @@ loop-target-preserved c =
     let left = left_of c.loop-target.sources pairs in
     let p : Pair = slice_index_or pairs i (record { 0 = 0 }, record { 0 = 0 }) in
     let before : Peeled pairs (p ∷ rest) first left = subst (λ k. Peeled pairs k first left) (drop_pair pairs i (record { 0 = 0 }, record { 0 = 0 }) c.loop-target-test.true) c.loop-target.invariant.peeled in
-    let is = c.sources_of-all.ensures (p.1).0 in
+    let is = c.sources_of-all.ensures.exact (p.1).0 in
     elim c.if-not-all-target.branch [
       | then-not-all-target w ↦ (let free : is_source left (p.1).0 ≡ false = no_source-left c.loop-target.sources (p.1).0 pairs (sym is ∙ w.if-not-all-target.true) in
           let t = w.take_back.ensures pairs c.requires.distinct c.loop-target.invariant.holds free in
