@@ -2,12 +2,13 @@
 use Rattle.std.specs.Prelude.{ℕ, ◌≡◌, ◌<◌, ◌↔◌, List, Option, Some, None, length}
 use Rattle.std.specs.List.{Contains}
 use Rattle.std.specs.Int.{bit_at}
+use Rattle.micro_isa.specs.declared.limits.TheConstants.{MOST_FILE, MOST_REGISTERS}
 use Rattle.point_walk.specs.Walks.{Table, place_at}
 
--- a slot for each register, and places below 128
+-- a slot for each register, and places of the file
 pub record IsTable (table : Table) : Type 0 where
-  pub size : length table ≡ 128
-  pub low : (k x : ℕ) → place_at table k ≡ Some x → x < 128
+  pub size : length table ≡ MOST_REGISTERS
+  pub low : (k x : ℕ) → place_at table k ≡ Some x → x < MOST_FILE
 
 -- the bits of the number are the places that registers have
 pub record IsTaken (table : Table) (taken : ℕ) : Type 0 where

@@ -1,6 +1,7 @@
 -- The walk: a plan that is made row by row, each from the row before.
 use Rattle.std.specs.Prelude.{ℕ, zero, suc, ◌≡◌, ◌<◌, Bool, false, List, [], ◌∷◌, ◌++◌, map, replicate, Option, Some, None, is_some, length, slice_get, slice_index_or, slice_set, if◌then◌else◌}
 use Rattle.std.specs.List.{Contains}
+use Rattle.micro_isa.specs.declared.limits.TheConstants.{MOST_REGISTERS}
 use Rattle.micro_isa.specs.declared.program.Line.{Line}
 use Rattle.micro_isa.specs.declared.program.VReg.{VReg}
 use Rattle.micro_isa.specs.Columns.{written_by, next_of}
@@ -17,7 +18,7 @@ Table = List (Option ℕ)
 
 -- no register has a place
 abbrev pub nothing : Table
-nothing = replicate 128 None
+nothing = replicate MOST_REGISTERS None
 
 abbrev pub place_at : Table → ℕ → Option ℕ
 place_at table k = slice_index_or table k None

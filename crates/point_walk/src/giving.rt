@@ -4,7 +4,7 @@ ghost use Rattle.liveness.specs.Sets.{IsSetOf};
 ghost use Rattle.point_walk.specs.Walks.{place_at, WishBelow, WishFree, LeastFree, Steps};
 ghost use Rattle.point_walk.specs.Tables.{IsTable, IsTaken, IsBelow, IsUntaken};
 
-use micro_isa::VReg;
+use micro_isa::{MOST_FILE, MOST_REGISTERS, VReg};
 
 /// Gives a register that has no place its wish, if that is below `p`.
 pub fn give_wish_below(
@@ -14,7 +14,7 @@ pub fn give_wish_below(
     places: &mut [Option<u8>],
     taken: &mut u128,
 )
-    requires low { register.0 < 128 }
+    requires low { register.0 < MOST_REGISTERS }
     requires wishes { IsTable wishes.now }
     requires taken { IsTaken places.old taken.old }
     ensures given { Steps (WishBelow p wishes.now) register.0 places.old places.new }
@@ -43,7 +43,7 @@ pub fn give_wish_free(
     places: &mut [Option<u8>],
     taken: &mut u128,
 )
-    requires low { register.0 < 128 }
+    requires low { register.0 < MOST_REGISTERS }
     requires wishes { IsTable wishes.now }
     requires taken { IsTaken places.old taken.old }
     ensures given { Steps (WishFree wishes.now) register.0 places.old places.new }
@@ -57,7 +57,7 @@ pub fn give_wish_free(
 }
 
 pub fn if_untaken(wish: Option<u8>, taken: u128) -> Option<u8>
-    requires { (x : ℕ) → wish ≡ Some x → x < 128 }
+    requires { (x : ℕ) → wish ≡ Some x → x < MOST_FILE }
     ensures { IsUntaken taken wish result }
 {
     match wish {
@@ -68,7 +68,7 @@ pub fn if_untaken(wish: Option<u8>, taken: u128) -> Option<u8>
 
 #[tactic(auto, using(crate::proofs::Slots::untaken_is))]
 fn untaken(place: u8, taken: u128) -> Option<u8>
-    requires { place < 128 }
+    requires { place < MOST_FILE }
     ensures { IsUntaken taken (Some place) result }
 {
     if taken >> place & 1 == 0 {
@@ -80,7 +80,7 @@ fn untaken(place: u8, taken: u128) -> Option<u8>
 
 /// Gives a register that has no place the least free one.
 pub fn give_free(register: VReg, places: &mut [Option<u8>], taken: &mut u128)
-    requires low { register.0 < 128 }
+    requires low { register.0 < MOST_REGISTERS }
     requires taken { IsTaken places.old taken.old }
     ensures given { Steps LeastFree register.0 places.old places.new }
     ensures taken { IsTaken places.new taken.new }
@@ -93,8 +93,8 @@ pub fn give_free(register: VReg, places: &mut [Option<u8>], taken: &mut u128)
 }
 
 fn give(k: usize, place: Option<u8>, places: &mut [Option<u8>], taken: &mut u128)
-    requires here { k < 128 }
-    requires low { (x : ℕ) → place ≡ Some x → x < 128 }
+    requires here { k < MOST_REGISTERS }
+    requires low { (x : ℕ) → place ≡ Some x → x < MOST_FILE }
     requires open { place_at places.old k ≡ None }
     requires taken { IsTaken places.old taken.old }
     ensures given { places.new ≡ slice_set places.old k place }
@@ -106,7 +106,7 @@ fn give(k: usize, place: Option<u8>, places: &mut [Option<u8>], taken: &mut u128
 
 /// The set of a place alone, or of none.
 pub fn place_set(place: Option<u8>) -> u128
-    requires { (x : ℕ) → place ≡ Some x → x < 128 }
+    requires { (x : ℕ) → place ≡ Some x → x < MOST_FILE }
     ensures { IsSetOf (λ x. place ≡ Some x) result }
 {
     match place {

@@ -11,7 +11,7 @@ use crate::giving::{least_free, place_set};
 use crate::keeping::{clear, stands};
 use crate::stage::{fill, grant_below, grant_free};
 use liveness::{Live, crossing, register_set, survivors, take_least};
-use micro_isa::{Line, List, NoMemory, VReg, successors, writes};
+use micro_isa::{Line, List, MOST_FILE, MOST_REGISTERS, NoMemory, VReg, successors, writes};
 use plan::{Place, PlanRow};
 use std::alloc::Global;
 
@@ -73,7 +73,7 @@ fn give_anew(before: u128, cross: u128, p: u32, table: &mut [Option<u8>])
     ensures table { IsTable table.new }
     ensures among { AreAmong table.new (members 128 before) }
 {
-    let mut places: [Option<u8>; 128] = [None; 128];
+    let mut places: [Option<u8>; MOST_REGISTERS] = [None; MOST_REGISTERS];
     give_places(before, cross, table, p, &mut places);
     table.copy_from_slice(&places);
 }
@@ -99,7 +99,7 @@ fn write_place(written: Option<VReg>, stay: u128, places: &[Option<u8>]) -> Opti
     requires small { IsSmall written }
     requires table { IsTable places.now }
     ensures place { IsWritePlace (members 128 stay) places.now written result }
-    ensures low { (x : ℕ) → result ≡ Some x → x < 128 }
+    ensures low { (x : ℕ) → result ≡ Some x → x < MOST_FILE }
 {
     match written {
         Some(register) => Some(place_for(register, stay, places)),
@@ -108,10 +108,10 @@ fn write_place(written: Option<VReg>, stay: u128, places: &[Option<u8>]) -> Opti
 }
 
 fn place_for(register: VReg, stay: u128, places: &[Option<u8>]) -> u8
-    requires small { register.0 < 128 }
+    requires small { register.0 < MOST_REGISTERS }
     requires table { IsTable places.now }
     ensures place { IsPlaceFor (members 128 stay) places.now (place_at places.now register.0) (Some result) }
-    ensures low { result < 128 }
+    ensures low { result < MOST_FILE }
 {
     match places[register.0 as usize] {
         Some(place) => place,

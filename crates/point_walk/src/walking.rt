@@ -8,7 +8,7 @@ ghost use Rattle.point_walk.specs.Walks.{IsWalk, AreWalked};
 
 use crate::row::next_row;
 use liveness::Live;
-use micro_isa::{Line, List, MOST_FILE, NoMemory, Program};
+use micro_isa::{Line, List, MOST_FILE, MOST_REGISTERS, NoMemory, Program};
 use plan::{Plan, PlanRow};
 use std::alloc::Global;
 
@@ -40,7 +40,7 @@ fn walk_rows(alloc: Global, code: &[Line], live: &Live, p: u32) -> Result<List<P
 {
     let mut rows = List::new(alloc);
     rows.reserve(code.len())?;
-    let mut wishes: [Option<u8>; 128] = [None; 128];
+    let mut wishes: [Option<u8>; MOST_REGISTERS] = [None; MOST_REGISTERS];
     let mut held = 0;
     'rows: for i in 0..code.len() {
         let row = next_row(alloc, code, live, i, p, &mut wishes, &mut held)?;

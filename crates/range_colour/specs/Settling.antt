@@ -1,6 +1,7 @@
 -- How a first fit is found: by sets of registers, as bits of numbers.
 use Rattle.std.specs.Prelude.{ℕ, ◌≡◌, ◌==◌, ◌≢◌, ◌+◌, ◌^◌, ◌<◌, ◌≤◌, ◌⊎◌, ◌↔◌, if◌then◌else◌, List, [], ◌∷◌, ◌++◌, length, slice_index, bit_and}
 use Rattle.std.specs.Int.{bit_at, bit_not, w128}
+use Rattle.micro_isa.specs.declared.limits.TheConstants.{MOST_REGISTERS}
 use Rattle.micro_isa.specs.declared.program.Line.{Line}
 use Rattle.range_colour.specs.Groups.{MeetsIn, CrossesIn}
 
@@ -22,7 +23,7 @@ AmongFirst list n i = (at : ℕ) × (at < n) × (slice_index list at ≡ i)
 
 -- the sets are those of a group of instructions
 pub record IsGathered (code : List Line) (Group : ℕ → Type 0) (registers crossing : ℕ) (meets : List ℕ) : Type 0 where
-  pub long : length meets ≡ 128
+  pub long : length meets ≡ MOST_REGISTERS
   pub there : (k : ℕ) → In registers k ↔ MeetsIn code Group k k
   pub meet : (j k : ℕ) → MeetBy meets j k ↔ MeetsIn code Group j k
   pub cross : (k : ℕ) → In crossing k ↔ CrossesIn code Group k
@@ -69,5 +70,5 @@ pub record IsColoured (registers crossing : ℕ) (meets places : List ℕ) (p r 
   pub taken_first : List ℕ
   pub taken_second : List ℕ
   pub long : length places ≡ length start
-  pub first : IsSettledTo meets 0 crossing 128 start middle taken_first p
-  pub second : IsSettledTo meets crossing (bit_and registers (bit_not w128 crossing)) 128 middle places taken_second r
+  pub first : IsSettledTo meets 0 crossing MOST_REGISTERS start middle taken_first p
+  pub second : IsSettledTo meets crossing (bit_and registers (bit_not w128 crossing)) MOST_REGISTERS middle places taken_second r

@@ -3,7 +3,7 @@ ghost use Rattle.range_colour.specs.Settling.{AreTaken, In, IsColoured, IsFreePl
 
 use crate::group::width;
 use liveness::has;
-use micro_isa::{NoMemory, VReg};
+use micro_isa::{MOST_REGISTERS, NoMemory, VReg};
 
 /// The least sizes that places fit in: `p` for the crossing registers, `r` for the others.
 #[derive(Clone, Copy, Debug)]
@@ -20,7 +20,7 @@ pub fn settle_group(
     places: &mut [u16],
     taken: &mut Vec<u128>,
 ) -> Result<Sizes, NoMemory>
-    requires long { length meets.now ≡ 128 }
+    requires long { length meets.now ≡ MOST_REGISTERS }
     requires places { (k : ℕ) → In registers k → k < length places.old }
     requires crossing { (k : ℕ) → In crossing k → In registers k }
     ensures settled { IfOk result (λ sizes. IsColoured registers crossing meets.now places.new sizes.p sizes.r) }
@@ -42,13 +42,13 @@ fn settle_all(
     places: &mut [u16],
     taken: &mut Vec<u128>,
 ) -> Result<u32, NoMemory>
-    requires long { length meets.now ≡ 128 }
+    requires long { length meets.now ≡ MOST_REGISTERS }
     requires places { (k : ℕ) → In set k → k < length places.old }
-    requires few { vec_len taken.old ≤ 128 }
+    requires few { vec_len taken.old ≤ MOST_REGISTERS }
     requires done { (k : ℕ) → In done k → In set k → ⊥ }
     requires taken { AreTaken (In done) (slice_index places.old) taken.old.items }
-    ensures settled { IfOk result (IsSettledTo meets.now done set 128 places.old places.new taken.new.items) }
-    ensures few { OnOk result (vec_len taken.new ≤ vec_len taken.old + 128) }
+    ensures settled { IfOk result (IsSettledTo meets.now done set MOST_REGISTERS places.old places.new taken.new.items) }
+    ensures few { OnOk result (vec_len taken.new ≤ vec_len taken.old + MOST_REGISTERS) }
 {
     let mut above = 0;
     'registers: for k in 0..width(set) {
@@ -66,8 +66,8 @@ fn settle_member(
     places: &mut [u16],
     taken: &mut Vec<u128>,
 ) -> Result<u32, NoMemory>
-    requires long { length meets.now ≡ 128 }
-    requires here { k < 128 }
+    requires long { length meets.now ≡ MOST_REGISTERS }
+    requires here { k < MOST_REGISTERS }
     requires places { In set k → k < length places.old }
     requires few { vec_len taken.old ≤ 255 }
     ensures settled { (done : ℕ) (first : Sequence ℕ) → (In done k → In set k → ⊥)
@@ -90,7 +90,7 @@ fn settle(
     taken: &mut Vec<u128>,
 ) -> Result<u32, NoMemory>
     requires here { k < length places.old }
-    requires register { k < 128 }
+    requires register { k < MOST_REGISTERS }
     requires few { vec_len taken.old ≤ 255 }
     ensures places { IfOk result (λ place. places.new ≡ slice_set places.old k place) }
     ensures free { IfOk result (λ place. IsFreePlace taken.old.items others place) }

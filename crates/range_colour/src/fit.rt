@@ -8,7 +8,7 @@ ghost use Rattle.range_colour.specs.Fits.{IsFit, least_private, least_all, place
 use crate::colour::{Sizes, settle_group};
 use crate::group::{Group, gather, width};
 use liveness::Live;
-use micro_isa::{Line, List, NoMemory};
+use micro_isa::{Line, List, MOST_REGISTERS, NoMemory};
 use std::alloc::Global;
 
 /// The first fit over a group of instructions: a place for each register that is in use there. It
@@ -32,7 +32,7 @@ impl Fit {
         requires closed { IsClosedCode code.now }
         requires live { IsLiveOf code.now live.now }
         requires members { All (λ i. i < length code.now) members.now }
-        requires long { length meets.old ≡ 128 }
+        requires long { length meets.old ≡ MOST_REGISTERS }
         ensures { IfOk result (IsFit code.now (Among members.now)) }
     {
         let Group {

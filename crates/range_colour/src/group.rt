@@ -6,7 +6,7 @@ ghost use Rattle.range_colour.specs.Groups.{Among};
 ghost use Rattle.range_colour.specs.Settling.{AllMeet, In, IsGathered, MeetBy};
 
 use liveness::{Live, crossing, has, values_after};
-use micro_isa::{Line, VReg};
+use micro_isa::{Line, MOST_REGISTERS, VReg};
 
 /// The registers of a group of instructions, and those that cross in it.
 #[derive(Clone, Copy, Debug)]
@@ -20,7 +20,7 @@ pub fn gather(code: &[Line], live: &Live, members: &[u32], meets: &mut [u128]) -
     requires closed { IsClosedCode code.now }
     requires live { IsLiveOf code.now live.now }
     requires members { All (λ i. i < length code.now) members.now }
-    requires long { length meets.old ≡ 128 }
+    requires long { length meets.old ≡ MOST_REGISTERS }
     ensures { IsGathered code.now (Among members.now) result.registers result.crossing meets.new }
 {
     clear(meets);
@@ -53,7 +53,7 @@ fn clear(meets: &mut [u128])
 /// Makes all of the set meet. Those of `last` do already, so there is nothing to do for a part of
 /// it. The set whose registers are known to meet now.
 fn join(meets: &mut [u128], last: u128, set: u128) -> u128
-    requires long { length meets.old ≡ 128 }
+    requires long { length meets.old ≡ MOST_REGISTERS }
     requires last { AllMeet meets.old last }
     ensures exact { (j k : ℕ) → MeetBy meets.new j k ↔ (MeetBy meets.old j k ⊎ (In set j × In set k)) }
     ensures last { AllMeet meets.new result }
@@ -66,7 +66,7 @@ fn join(meets: &mut [u128], last: u128, set: u128) -> u128
 }
 
 fn join_all(meets: &mut [u128], set: u128)
-    requires { length meets.old ≡ 128 }
+    requires { length meets.old ≡ MOST_REGISTERS }
     ensures { (j k : ℕ) → MeetBy meets.new j k ↔ (MeetBy meets.old j k ⊎ (In set j × In set k)) }
 {
     'registers: for k in 0..width(set) {

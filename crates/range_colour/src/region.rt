@@ -11,7 +11,7 @@ ghost use Rattle.range_colour.specs.Regional.{AreFits, AreFitsOver, DoFit, IsGro
 use crate::fit::Fit;
 use crate::rows::row_at;
 use liveness::Live;
-use micro_isa::{Line, List, MOST_FILE, NoMemory, Program};
+use micro_isa::{Line, List, MOST_FILE, MOST_INSTRUCTIONS, MOST_REGISTERS, NoMemory, Program};
 use plan::{Plan, PlanRow};
 use pressure::Regions;
 use std::alloc::Global;
@@ -84,7 +84,7 @@ pub fn region_fits(
     ensures { IfOk result (AreFits code.now regions.now) }
 {
     let groups = members_of(alloc, regions, code.len())?;
-    let Ok(mut meets) = Vec::from_elem(alloc, 0u128, 128) else {
+    let Ok(mut meets) = Vec::from_elem(alloc, 0u128, MOST_REGISTERS) else {
         return Err(NoMemory);
     };
     let mut taken = Vec::new(alloc);
@@ -103,7 +103,7 @@ fn fits_over(
     requires closed { IsClosedCode code.now }
     requires live { IsLiveOf code.now live.now }
     requires members { All (λ list. All (λ i. i < length code.now) list) groups.now }
-    requires long { length meets.old ≡ 128 }
+    requires long { length meets.old ≡ MOST_REGISTERS }
     ensures { IfOk result (AreFitsOver code.now groups.now) }
 {
     let mut fits = List::new(alloc);
@@ -118,7 +118,7 @@ fn fits_over(
 
 /// The instructions of each region.
 fn members_of(alloc: Global, regions: &Regions, n: usize) -> Result<Vec<List<u32>>, NoMemory>
-    requires few { n ≤ 2048 }
+    requires few { n ≤ MOST_INSTRUCTIONS }
     requires numbers { length (numbers_in regions.now) ≡ n }
     requires below { (i : ℕ) → i < n → slice_index (numbers_in regions.now) i < count_in regions.now }
     ensures { IfOk result (λ groups. IsGroupedTo (numbers_in regions.now) (count_in regions.now) n groups.items) }

@@ -9,7 +9,7 @@ ghost use Rattle.range_colour.specs.Fits.{IsFit};
 use crate::fit::Fit;
 use crate::rows::row_at;
 use liveness::Live;
-use micro_isa::{Line, List, MOST_FILE, NoMemory, Program};
+use micro_isa::{Line, List, MOST_FILE, MOST_INSTRUCTIONS, MOST_REGISTERS, NoMemory, Program};
 use plan::{Plan, PlanRow};
 use std::alloc::Global;
 
@@ -64,7 +64,7 @@ pub fn whole_fit(alloc: Global, code: &[Line], live: &Live) -> Result<Fit, NoMem
     ensures { IfOk result (IsFit code.now Every) }
 {
     let members = all_of(alloc, code.len())?;
-    let Ok(mut meets) = Vec::from_elem(alloc, 0u128, 128) else {
+    let Ok(mut meets) = Vec::from_elem(alloc, 0u128, MOST_REGISTERS) else {
         return Err(NoMemory);
     };
     let mut taken = Vec::new(alloc);
@@ -80,7 +80,7 @@ pub fn whole_fit(alloc: Global, code: &[Line], live: &Live) -> Result<Fit, NoMem
 
 /// The numbers below `n`.
 fn all_of(alloc: Global, n: usize) -> Result<List<u32>, NoMemory>
-    requires { n ≤ 2048 }
+    requires { n ≤ MOST_INSTRUCTIONS }
     ensures whole { IfOk result (λ list. length list ≡ n) }
     ensures each { IfOk result (λ list. (k : ℕ) → k < n → slice_index list k ≡ k) }
 {
