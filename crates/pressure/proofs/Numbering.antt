@@ -9,7 +9,7 @@ use Rattle.micro_isa.specs.declared.program.Line.{Line}
 use Rattle.flow_graph.specs.Paths.{GoesTo, IsClosedCode}
 use Rattle.pressure.specs.declared.ring.Rings.{Rings}
 use Rattle.pressure.specs.Regions.{Joined, Adjacent, Connected, IsLeastOf, IsNumbered}
-use Rattle.pressure.specs.Rings.{JoinedBy, Link, LinkOf, Leads, AreRingsOf, IsNobody}
+use Rattle.pressure.specs.Rings.{JoinedBy, Link, LinkOf, Leads, AreRinged, IsNobody}
 use Rattle.pressure.specs.Floods.{HasNumber, Floods, IsUnused, AreLow, AreNumbered, ArePlain, ArePlainBelow}
 use Rattle.pressure.proofs.Ways.{trans, one, reroute, back, carry}
 use Rattle.pressure.proofs.Ringing.{either, some_below}
@@ -20,11 +20,11 @@ connected_below code closed = carry (λ n. n < length code) (Adjacent code) (λ 
   | inr into ↦ slice_get_within code b into.0 into.1
 ])
 
-module _ (code : List Line) (falls jumps : Rings) (closed : IsClosedCode code) (by_fall : AreRingsOf code false falls) (by_jump : AreRingsOf code true jumps) where
+module _ (code : List Line) (falls jumps : Rings) (rings : AreRinged code falls jumps) where
   -- links stay in a region
   pub linked : (a b : ℕ) → LinkOf falls jumps a b → Connected code a b
-  linked a b (inl fall) = by_fall.linked a b fall
-  linked a b (inr jump) = by_jump.linked a b jump
+  linked a b (inl fall) = rings.by_fall.linked a b fall
+  linked a b (inr jump) = rings.by_jump.linked a b jump
 
   -- and lead all over it
   joined : (i j : ℕ) → Joined code i j → Leads (LinkOf falls jumps) i j × Leads (LinkOf falls jumps) j i
@@ -34,8 +34,8 @@ module _ (code : List Line) (falls jumps : Rings) (closed : IsClosedCode code) (
       let by_falls : (a b : ℕ) → Leads (Link falls.own falls.target) a b → Leads L a b = reroute _ L (λ a b link. one L a b (inl link)) in
       let by_jumps : (a b : ℕ) → Leads (Link jumps.own jumps.target) a b → Leads L a b = reroute _ L (λ a b link. one L a b (inr link)) in
       elim by.3 [
-        | inl fall ↦ let both = by_fall.joined i j inside (by.0, by.1, by.2, fall) in (by_falls i j both.0, by_falls j i both.1)
-        | inr jump ↦ let both = by_jump.joined i j inside (by.0, by.1, by.2, jump) in (by_jumps i j both.0, by_jumps j i both.1)
+        | inl fall ↦ let both = rings.by_fall.joined i j inside (by.0, by.1, by.2, fall) in (by_falls i j both.0, by_falls j i both.1)
+        | inr jump ↦ let both = rings.by_jump.joined i j inside (by.0, by.1, by.2, jump) in (by_jumps i j both.0, by_jumps j i both.1)
       ]
 
   pub led : (i j : ℕ) → Connected code i j → Leads (LinkOf falls jumps) i j
@@ -49,15 +49,15 @@ module _ (code : List Line) (falls jumps : Rings) (closed : IsClosedCode code) (
     low = λ a b link.
         let inside : a < length code = elim link [
           | inl fall ↦ elim fall [
-            | inl e ↦ let l = some_below falls.own a b e in let n = by_fall.own_each in omega arith
-            | inr e ↦ let l = some_below falls.target a b e in let n = by_fall.target_each in omega arith
+            | inl e ↦ let l = some_below falls.own a b e in let n = rings.by_fall.own_each in omega arith
+            | inr e ↦ let l = some_below falls.target a b e in let n = rings.by_fall.target_each in omega arith
           ]
           | inr jump ↦ elim jump [
-            | inl e ↦ let l = some_below jumps.own a b e in let n = by_jump.own_each in omega arith
-            | inr e ↦ let l = some_below jumps.target a b e in let n = by_jump.target_each in omega arith
+            | inl e ↦ let l = some_below jumps.own a b e in let n = rings.by_jump.own_each in omega arith
+            | inr e ↦ let l = some_below jumps.target a b e in let n = rings.by_jump.target_each in omega arith
           ]
         ] in
-        connected_below code closed a b inside (linked a b link);
+        connected_below code rings.closed a b inside (linked a b link);
   }
 
   module _ (start count : ℕ) (old new : List (Option ℕ)) (inside : start < length code) (none : get_or old start None ≡ None)
@@ -196,9 +196,8 @@ unnumbered numbers i d told inside is not_told = go (get_or numbers i None) refl
         let on : is_some (get_or numbers i d) ≡ true = ap (λ (o : Option ℕ). is_some o) (get_or_default numbers i d None inside ∙ e) in
         cc)
 
-pub low_links : (code : List Line) (falls jumps : Rings) (n : ℕ) → IsClosedCode code → AreRingsOf code false falls → AreRingsOf code true jumps
-    → n ≡ length code → AreLow (LinkOf falls jumps) n
-low_links code falls jumps n closed by_fall by_jump same = subst (λ m. AreLow (LinkOf falls jumps) m) (sym same) (low code falls jumps closed by_fall by_jump)
+pub low_links : (code : List Line) (falls jumps : Rings) (n : ℕ) → AreRinged code falls jumps → n ≡ length code → AreLow (LinkOf falls jumps) n
+low_links code falls jumps n rings same = subst (λ m. AreLow (LinkOf falls jumps) m) (sym same) (low code falls jumps rings)
 
 pub none_numbered : (code : List Line) (numbers : List (Option ℕ)) → IsNobody (length code) numbers → AreNumbered code 0 0 numbers
 none_numbered code numbers nobody = let none = nobody.none in record {

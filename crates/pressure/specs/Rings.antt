@@ -1,9 +1,9 @@
 -- Rings of instructions: on that of each are itself and those that one kind of edge joins with it.
-use Rattle.std.specs.Prelude.{ℕ, ◌≡◌, ◌<◌, ◌≤◌, ◌⊎◌, ◌↔◌, Bool, false, cond, List, Option, Some, None, length, slice_get, slice_index_or, slice_set}
+use Rattle.std.specs.Prelude.{ℕ, ◌≡◌, ◌<◌, ◌≤◌, ◌⊎◌, ◌↔◌, Bool, true, false, cond, List, Option, Some, None, length, slice_get, slice_index_or, slice_set}
 use Rattle.micro_isa.specs.declared.instr.Next.{Next}
 use Rattle.micro_isa.specs.declared.program.Line.{Line}
 use Rattle.micro_isa.specs.Columns.{switches_at, next_of}
-use Rattle.flow_graph.specs.Paths.{Walk}
+use Rattle.flow_graph.specs.Paths.{Walk, IsClosedCode}
 use Rattle.pressure.specs.Regions.{Connected}
 use Rattle.pressure.specs.declared.ring.Rings.{Rings}
 
@@ -39,6 +39,12 @@ pub record AreRings (code : List Line) (jumps : Bool) (m : ℕ) (own target : Li
 -- the rings have what all instructions are joined with by edges of this kind
 abbrev pub AreRingsOf : List Line → Bool → Rings → Type 0
 AreRingsOf code jumps rings = AreRings code jumps (length code) rings.own rings.target
+
+-- closed code, and the rings of both kinds
+pub record AreRinged (code : List Line) (falls jumps : Rings) : Type 0 where
+  pub closed : IsClosedCode code
+  pub by_fall : AreRingsOf code false falls
+  pub by_jump : AreRingsOf code true jumps
 
 -- b comes after a on a ring of either kind
 abbrev pub LinkOf : Rings → Rings → ℕ → ℕ → Type 0

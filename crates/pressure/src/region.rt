@@ -1,8 +1,8 @@
-ghost use Rattle.std.specs.Prelude.{◌≡◌, ℕ, ◌+◌, ◌<◌, ◌≤◌, Some, length, slice_index, IfOk, true, false};
+ghost use Rattle.std.specs.Prelude.{◌≡◌, ℕ, ◌+◌, ◌<◌, ◌≤◌, Some, length, slice_index, IfOk};
 ghost use Rattle.flow_graph.specs.Paths.{IsClosedCode};
 ghost use Rattle.flow_graph.specs.Flows.{IsFlowOf};
 ghost use Rattle.pressure.specs.Regions.{numbers_in, count_in, AreRegionsOf};
-ghost use Rattle.pressure.specs.Rings.{AreRingsOf, IsNobody};
+ghost use Rattle.pressure.specs.Rings.{AreRinged, IsNobody};
 ghost use Rattle.pressure.specs.Floods.{AreNumbered, ArePlain};
 
 use crate::flood::flood;
@@ -57,9 +57,7 @@ fn numbered(
     jumps: &Rings,
     numbers: &mut [Option<u32>],
 ) -> Result<Regions, NoMemory>
-    requires closed { IsClosedCode code.now }
-    requires falls { AreRingsOf code.now false falls.now }
-    requires jumps { AreRingsOf code.now true jumps.now }
+    requires rings { AreRinged code.now falls.now jumps.now }
     requires nobody { IsNobody (length code.now) numbers.old }
     ensures { IfOk result (λ regions. AreRegionsOf code.now regions) }
 {
@@ -76,9 +74,7 @@ fn number_all(
     jumps: &Rings,
     numbers: &mut [Option<u32>],
 ) -> Result<u32, NoMemory>
-    requires closed { IsClosedCode code.now }
-    requires falls { AreRingsOf code.now false falls.now }
-    requires jumps { AreRingsOf code.now true jumps.now }
+    requires rings { AreRinged code.now falls.now jumps.now }
     requires nobody { IsNobody (length code.now) numbers.old }
     ensures { IfOk result (λ count. AreNumbered code.now (length code.now) count numbers.new) }
 {
@@ -99,9 +95,7 @@ fn number_from(
     i: u32,
     count: u32,
 ) -> Result<u32, NoMemory>
-    requires closed { IsClosedCode code.now }
-    requires falls { AreRingsOf code.now false falls.now }
-    requires jumps { AreRingsOf code.now true jumps.now }
+    requires rings { AreRinged code.now falls.now jumps.now }
     requires here { i < length code.now }
     requires few { count ≤ i }
     requires numbered { AreNumbered code.now i count numbers.old }

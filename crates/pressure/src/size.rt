@@ -1,19 +1,16 @@
-ghost use Rattle.std.specs.Prelude.{◌<◌, ◌≤◌, length};
+ghost use Rattle.std.specs.Prelude.{◌≤◌};
 ghost use Rattle.micro_isa.specs.declared.limits.TheConstants.{MOST_REGISTERS};
-ghost use Rattle.flow_graph.specs.Paths.{IsClosedCode};
-ghost use Rattle.liveness.specs.Lives.{IsLiveOf};
 ghost use Rattle.liveness.specs.Liveness.{LiveIn};
 ghost use Rattle.liveness.specs.Sets.{HasSize};
 ghost use Rattle.liveness.specs.Surviving.{Stays, IsAfter};
+ghost use Rattle.pressure.specs.Pressures.{IsKnownAt};
 
 use liveness::{Live, survivors, values_after};
 use micro_isa::Line;
 
 /// How many registers are live in at instruction `i`.
 pub fn in_size(code: &[Line], live: &Live, i: usize) -> u32
-    requires closed { IsClosedCode code.now }
-    requires live { IsLiveOf code.now live.now }
-    requires here { i < length code.now }
+    requires { IsKnownAt code.now live.now i }
     ensures exact { HasSize (LiveIn code.now i) result }
     ensures few { result ≤ MOST_REGISTERS }
 {
@@ -22,9 +19,7 @@ pub fn in_size(code: &[Line], live: &Live, i: usize) -> u32
 
 /// How many registers survive instruction `i`.
 pub fn stay_size(code: &[Line], live: &Live, i: usize) -> u32
-    requires closed { IsClosedCode code.now }
-    requires live { IsLiveOf code.now live.now }
-    requires here { i < length code.now }
+    requires { IsKnownAt code.now live.now i }
     ensures { HasSize (Stays code.now i) result }
 {
     survivors(code, live, i).count_ones()
@@ -32,9 +27,7 @@ pub fn stay_size(code: &[Line], live: &Live, i: usize) -> u32
 
 /// How many registers have a value after instruction `i`.
 pub fn after_size(code: &[Line], live: &Live, i: usize) -> u32
-    requires closed { IsClosedCode code.now }
-    requires live { IsLiveOf code.now live.now }
-    requires here { i < length code.now }
+    requires { IsKnownAt code.now live.now i }
     ensures exact { HasSize (IsAfter code.now i) result }
     ensures few { result ≤ MOST_REGISTERS }
 {
