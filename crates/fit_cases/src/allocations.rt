@@ -1,16 +1,13 @@
 //! Allocations of small bundles: which plan wins, and the budget that is preferred. The wanted values
 //! are those of a plain program that tries every budget.
 
-use crate::fits::{bundle_of, shown};
+use crate::bundles::{SPLIT, bundle_of};
+use crate::fits::shown;
 use allocate::{Allocation, allocate};
 use std::alloc::Global;
 use std::test::Fail;
 
-/// A register more of its own spares a move, so the fit over the whole program serves.
-const MORE_OF_ITS_OWN: &[u8] =
-    b"file 2\noutput out\ncontext a\nli x, 5\nyield\nli y, 9\nbeq x, y, next\nnext:\nyield\nsend out, y\nhalt\n";
-
-/// The same in a large file: nothing is taken for nothing.
+/// The split program in a large file: nothing is taken for nothing.
 const LARGE: &[u8] =
     b"file 40\noutput out\ncontext a\nli x, 5\nyield\nli y, 9\nbeq x, y, next\nnext:\nyield\nsend out, y\nhalt\n";
 
@@ -31,9 +28,6 @@ const WALK_WINS: &[u8] =
     b"file 5\noutput out\ncontext a\nyield\nli b, 1\nsend out, d\nsend out, b\nadd c, a, a\nhalt\ncontext b\nyield\nli b, 1\nsend out, d\nsend out, b\nadd c, a, a\nhalt\n";
 
 fn allocation_of(alloc: Global, text: &[u8]) -> Result<Allocation, Fail> {
-    if text.len() > 4096 {
-        return Err("a short text".into());
-    }
     let bundle = bundle_of(alloc, text)?;
     match allocate(alloc, &bundle) {
         Ok(allocation) => Ok(allocation),
@@ -61,8 +55,9 @@ fn told(alloc: Global, allocation: &Allocation) -> Result<String, Fail> {
 #[test]
 fn allocations_of_known_bundles(rt: HostRuntime) -> Result<(), Fail> {
     let rows = [
+        // A register more of its own spares a move, so the fit over the whole program serves.
         (
-            MORE_OF_ITS_OWN,
+            SPLIT,
             "2 shared 0 cost 0 >0;0@0 ;0@0 >1;0@0 1@1 ;1@1 ;1@1 ;;",
         ),
         (

@@ -1,4 +1,4 @@
-ghost use Rattle.std.specs.Prelude.{◌≡◌, ◌<◌, ◌≤◌, ℕ, true, length, slice_index};
+ghost use Rattle.std.specs.Prelude.{ℕ, ◌≡◌, ◌+◌, ◌*◌, ◌<◌, ◌≤◌, true, slice_index};
 ghost use Rattle.std.specs.List.{All};
 ghost use Rattle.budget.specs.Costs.{IsCostTable};
 
@@ -10,6 +10,96 @@ use std::test::Fail;
 /// The least sizes of a table, what its cells cost, and those that cost otherwise, by their places.
 type Row = (u32, u32, u32, &'static [(usize, u32)]);
 
+/// Tables and a file, and the budget that is preferred: the sizes, the shared registers, the cost.
+struct Case {
+    tables: &'static [Row],
+    file: u32,
+    private: &'static [u32],
+    shared: u32,
+    cost: u32,
+}
+
+const CASES: [Case; 7] = [
+    // The cost: a register more of its own spares a move.
+    Case {
+        tables: &[(1, 2, 1, &[(8, 0)])],
+        file: 2,
+        private: &[2],
+        shared: 0,
+        cost: 0,
+    },
+    // The total: nothing is taken for nothing.
+    Case {
+        tables: &[(1, 2, 3, &[])],
+        file: 9,
+        private: &[1],
+        shared: 1,
+        cost: 3,
+    },
+    // The shared registers: as many in all, and all but the least are shared.
+    Case {
+        tables: &[(1, 1, 7, &[(1, 0), (9, 0)])],
+        file: 4,
+        private: &[1],
+        shared: 1,
+        cost: 0,
+    },
+    // The list: the last context takes the register more.
+    Case {
+        tables: &[(1, 1, 4, &[(9, 0)]), (1, 1, 4, &[(9, 0)])],
+        file: 3,
+        private: &[1, 2],
+        shared: 0,
+        cost: 4,
+    },
+    // Beyond a table's sizes nothing costs less.
+    Case {
+        tables: &[(0, 0, 5, &[(63, 0)])],
+        file: 20,
+        private: &[7],
+        shared: 0,
+        cost: 0,
+    },
+    // A context that nothing crosses.
+    Case {
+        tables: &[FULL],
+        file: 2,
+        private: &[0],
+        shared: 2,
+        cost: 0,
+    },
+    // One move with the least of its own, and none with more.
+    Case {
+        tables: &[(
+            1,
+            2,
+            0,
+            &[
+                (0, 1),
+                (1, 1),
+                (2, 1),
+                (3, 1),
+                (4, 1),
+                (5, 1),
+                (6, 1),
+                (7, 1),
+            ],
+        )],
+        file: 2,
+        private: &[2],
+        shared: 0,
+        cost: 0,
+    },
+];
+
+/// Two registers, neither of which crosses, and nothing costs.
+const FULL: Row = (0, 2, 0, &[]);
+
+/// Tables whose need is 2.
+const OF_TWO: [&[Row]; 2] = [&[(0, 1, 0, &[]), (1, 1, 0, &[])], &[FULL]];
+
+/// The table of a row. What has more of its own than in all costs the greatest number: no budget
+/// looks there.
 fn table_of(alloc: Global, row: Row) -> Result<CostTable, Fail> {
     let (private, all, cost, others) = row;
     let mut cells = Vec::from_elem(alloc, cost, 64)?;
@@ -18,6 +108,7 @@ fn table_of(alloc: Global, row: Row) -> Result<CostTable, Fail> {
             cells[*place] = *cost;
         }
     }
+    hide(cells.as_mut_slice(), private, all);
     Ok(CostTable {
         private,
         all,
@@ -25,26 +116,60 @@ fn table_of(alloc: Global, row: Row) -> Result<CostTable, Fail> {
     })
 }
 
+fn hide(cells: &mut [u32], private: u32, all: u32) {
+    for place in 0..cells.len() {
+        let own = u64::from(private) + (place / 8) as u64;
+        if own > u64::from(all) + (place % 8) as u64 {
+            cells[place] = u32::MAX;
+        }
+    }
+}
+
 /// The test of what `balance` requires of a table.
 fn is_table(table: &CostTable) -> bool
     ensures { result ≡ true → IsCostTable table.now }
 {
-    let cells = table.cells.as_slice();
     table.private <= table.all
         && table.all <= MOST_FILE
-        && cells.len() == (SIZES * SIZES) as usize
-        && are_small(cells)
+        && table.cells.len() == (SIZES * SIZES) as usize
+        && are_small(table)
 }
 
-fn are_small(cells: &[u32]) -> bool
-    ensures { result ≡ true → (k : ℕ) → k < length cells.now → slice_index cells.now k ≤ MOST_COST }
+fn are_small(table: &CostTable) -> bool
+    requires order { table.now.private ≤ table.now.all }
+    requires few { table.now.all ≤ MOST_FILE }
+    ensures { result ≡ true → (i j : ℕ) → i < SIZES → j < SIZES → table.now.private + i ≤ table.now.all + j → slice_index table.now.cells (i * SIZES + j) ≤ MOST_COST }
 {
-    for cost in cells {
-        if *cost > MOST_COST {
+    for i in 0..SIZES {
+        if !is_small_row(table, i) {
             return false;
         }
     }
     true
+}
+
+fn is_small_row(table: &CostTable, i: u32) -> bool
+    requires order { table.now.private ≤ table.now.all }
+    requires few { table.now.all ≤ MOST_FILE }
+    requires within { i < SIZES }
+    ensures { result ≡ true → (j : ℕ) → j < SIZES → table.now.private + i ≤ table.now.all + j → slice_index table.now.cells (i * SIZES + j) ≤ MOST_COST }
+{
+    for j in 0..SIZES {
+        let cost = cost_at(table.cells.as_slice(), (i * SIZES + j) as usize);
+        if table.private + i <= table.all + j && cost > MOST_COST {
+            return false;
+        }
+    }
+    true
+}
+
+fn cost_at(cells: &[u32], place: usize) -> u32
+    ensures { result ≡ slice_index cells.now place }
+{
+    match cells.get(place) {
+        Some(cost) => *cost,
+        None => 0,
+    }
 }
 
 fn are_tables(tables: &[CostTable]) -> bool
@@ -85,40 +210,33 @@ fn budget_of(alloc: Global, private: &[u32], shared: u32, cost: u32) -> Result<B
     })
 }
 
+fn holds(alloc: Global, case: &Case) -> Result<bool, Fail> {
+    let want = budget_of(alloc, case.private, case.shared, case.cost)?;
+    match told(alloc, case.tables, case.file)? {
+        Ok(found) => Ok(found == want),
+        Err(_) => Ok(false),
+    }
+}
+
+fn is_refused(alloc: Global, tables: &[Row]) -> Result<bool, Fail> {
+    match told(alloc, tables, 1)? {
+        Ok(_) => Ok(false),
+        Err(fault) => Ok(fault == BudgetFault::NoFit { need: 2, file: 1 }),
+    }
+}
+
 #[test]
 fn each_key_decides(rt: HostRuntime) -> Result<(), Fail> {
-    let rows: [(&[Row], u32, &[u32], u32, u32); 5] = [
-        // The cost: a register more of its own spares a move.
-        (&[(1, 2, 1, &[(8, 0)])], 2, &[2], 0, 0),
-        // The total: nothing is taken for nothing.
-        (&[(1, 2, 3, &[])], 9, &[1], 1, 3),
-        // The shared registers: as many in all, and all but the least are shared.
-        (&[(1, 1, 7, &[(1, 0), (9, 0)])], 4, &[1], 1, 0),
-        // The list: the last context takes the register more.
-        (
-            &[(1, 1, 4, &[(9, 0)]), (1, 1, 4, &[(9, 0)])],
-            3,
-            &[1, 2],
-            0,
-            4,
-        ),
-        // Beyond a table's sizes nothing costs less.
-        (&[(0, 0, 5, &[(63, 0)])], 20, &[7], 0, 0),
-    ];
-    for (tables, file, private, shared, cost) in &rows {
-        let want = budget_of(rt.alloc(), *private, *shared, *cost)?;
-        match told(rt.alloc(), *tables, *file)? {
-            Ok(found) => assert_eq!(rt; found, want),
-            Err(_) => assert!(rt; false),
-        }
+    for case in &CASES {
+        assert!(rt; holds(rt.alloc(), case)?);
     }
     Ok(())
 }
 
 #[test]
 fn the_need_is_above_the_file(rt: HostRuntime) -> Result<(), Fail> {
-    let rows: [Row; 2] = [(0, 1, 0, &[]), (1, 1, 0, &[])];
-    let fault = told(rt.alloc(), rows.as_slice(), 1)?.err();
-    assert_eq!(rt; fault, Some(BudgetFault::NoFit { need: 2, file: 1 }));
+    for tables in &OF_TWO {
+        assert!(rt; is_refused(rt.alloc(), *tables)?);
+    }
     Ok(())
 }

@@ -1,20 +1,16 @@
-ghost use Rattle.std.specs.Prelude.{◌≤◌, length, IfOk};
-ghost use Rattle.micro_isa.specs.Formed.{IsFormedBundle};
+ghost use Rattle.std.specs.Prelude.{◌≤◌};
+ghost use Rattle.micro_isa.specs.declared.limits.TheConstants.{MOST_FILE};
 ghost use Rattle.flow_graph.specs.Paths.{IsClosedCode};
 
-use asm_text::read_bundle;
+use crate::bundles::{SPLIT, bundle_of, context_of};
 use flow_graph::Flow;
 use liveness::Live;
-use micro_isa::{Bundle, Program};
+use micro_isa::Program;
 use plan::{Plan, check_plan};
 use pressure::Regions;
 use range_colour::{by_region, first_fit};
 use std::alloc::Global;
 use std::test::Fail;
-
-/// A register lives over a yield beside another one, and each has a place of its own.
-const SPLIT: &[u8] =
-    b"file 3\noutput out\ncontext a\nli x, 5\nyield\nli y, 9\nbeq x, y, next\nnext:\nyield\nsend out, y\nhalt\n";
 
 /// A write that nothing reads has a place too.
 const DEAD: &[u8] =
@@ -27,34 +23,19 @@ struct Fits {
     regional: Option<Plan>,
 }
 
-pub(crate) fn bundle_of(alloc: Global, text: &[u8]) -> Result<Bundle, Fail>
-    requires { length text.now ≤ 2097152 }
-    ensures { IfOk result IsFormedBundle }
-{
-    match read_bundle(alloc, text) {
-        Ok(bundle) => Ok(bundle),
-        Err(_) => Err("a text without a fault".into()),
-    }
-}
-
 /// The fits of context `c`.
 fn fits_in(alloc: Global, text: &[u8], c: usize, p: u32, r: u32) -> Result<Fits, Fail>
-    requires text { length text.now ≤ 2097152 }
     requires order { p ≤ r }
-    requires few { r ≤ 128 }
+    requires few { r ≤ MOST_FILE }
 {
     let bundle = bundle_of(alloc, text)?;
-    let programs = bundle.programs.as_slice();
-    if programs.len() <= c {
-        return Err("a context of this number".into());
-    }
-    fits_of(alloc, &programs[c], p, r)
+    fits_of(alloc, context_of(&bundle, c)?, p, r)
 }
 
 fn fits_of(alloc: Global, program: &Program, p: u32, r: u32) -> Result<Fits, Fail>
     requires closed { IsClosedCode program.now.code }
     requires order { p ≤ r }
-    requires few { r ≤ 128 }
+    requires few { r ≤ MOST_FILE }
 {
     let flow = Flow::of(alloc, program)?;
     let live = Live::of(alloc, program, &flow)?;

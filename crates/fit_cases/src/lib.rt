@@ -1,4 +1,5 @@
-//! First fits and budgets of known programs and tables, and allocations of small bundles.
+//! First fits and budgets of known programs and tables, allocations of small bundles, and the words
+//! and the glue of plans.
 #![tactic(auto)]
 
 #[cfg(test)]
@@ -6,4 +7,10 @@ mod allocations;
 #[cfg(test)]
 mod budgets;
 #[cfg(test)]
+mod bundles;
+#[cfg(test)]
+mod emission;
+#[cfg(test)]
 mod fits;
+#[cfg(test)]
+mod glue;

@@ -1,6 +1,7 @@
-use Rattle.std.proofs.Common.{ℕ, ◌<◌, ◌≤◌, slice_index}
-use Rattle.budget.specs.declared.TheConstants.{MOST_COST}
+use Rattle.std.proofs.Common.{ℕ, ◌+◌, ◌*◌, ◌<◌, ◌≤◌, slice_index}
+use Rattle.budget.specs.declared.TheConstants.{SIZES, MOST_COST}
 use Rattle.fit_cases.proofs.budgets.are_small.Given as goal
 
-abbrev pub invariant-loop-cost : goal.invariant-loop-cost
-invariant-loop-cost l = (k : ℕ) → k < l.cost-index → slice_index l.cells k ≤ MOST_COST
+abbrev pub invariant-loop-i : goal.invariant-loop-i
+invariant-loop-i l =
+    (h j : ℕ) → h < l.i → j < SIZES → l.table.private + h ≤ l.table.all + j → slice_index l.table.cells (h * SIZES + j) ≤ MOST_COST
