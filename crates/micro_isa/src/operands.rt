@@ -87,47 +87,66 @@ pub fn instr_of<R: Copy>(operation: Operation, operands: Operands<R, u32, u8>) -
     ensures { result ≡ instr_of operation operands }
 {
     let Operands { to, a, b, extra } = operands;
-    match (operation, to, a, b, extra) {
-        (Operation::Li, Some(to), None, None, Extra::Number(n)) => Some(Instr::Li { to, n }),
-        (Operation::Mov, Some(to), Some(from), None, Extra::Nothing) => Some(Instr::Mov {
-            to,
-            from,
-        }),
-        (Operation::Alu(op), Some(to), Some(a), Some(b), Extra::Nothing) => Some(Instr::Alu {
-            op,
-            to,
-            a,
-            b,
-        }),
-        (Operation::Div(op), Some(to), Some(a), Some(b), Extra::Nothing) => Some(Instr::Div {
-            op,
-            to,
-            a,
-            b,
-        }),
-        (Operation::Ctx, Some(to), None, None, Extra::Nothing) => Some(Instr::Ctx { to }),
-        (Operation::Jmp, None, None, None, Extra::Target(target)) => Some(Instr::Jmp { target }),
-        (Operation::Branch(test), None, Some(a), Some(b), Extra::Target(target)) => Some(
-            Instr::Branch { test, a, b, target },
-        ),
-        (Operation::Load, Some(to), Some(address), None, Extra::Nothing) => Some(Instr::Load {
-            to,
-            address,
-        }),
-        (Operation::Store, None, Some(address), Some(from), Extra::Nothing) => Some(Instr::Store {
-            address,
-            from,
-        }),
-        (Operation::Yield, None, None, None, Extra::Nothing) => Some(Instr::Yield),
-        (Operation::Recv, Some(to), None, None, Extra::Receive(channel)) => Some(Instr::Recv {
-            to,
-            channel,
-        }),
-        (Operation::Send, None, Some(from), None, Extra::Send(channel)) => Some(Instr::Send {
-            channel,
-            from,
-        }),
-        (Operation::Halt, None, None, None, Extra::Nothing) => Some(Instr::Halt),
-        _ => None,
+    match operation {
+        Operation::Li => match (to, a, b, extra) {
+            (Some(to), None, None, Extra::Number(n)) => Some(Instr::Li { to, n }),
+            _ => None,
+        },
+        Operation::Mov => match (to, a, b, extra) {
+            (Some(to), Some(from), None, Extra::Nothing) => Some(Instr::Mov { to, from }),
+            _ => None,
+        },
+        Operation::Alu(op) => match (to, a, b, extra) {
+            (Some(to), Some(a), Some(b), Extra::Nothing) => Some(Instr::Alu { op, to, a, b }),
+            _ => None,
+        },
+        Operation::Div(op) => match (to, a, b, extra) {
+            (Some(to), Some(a), Some(b), Extra::Nothing) => Some(Instr::Div { op, to, a, b }),
+            _ => None,
+        },
+        Operation::Ctx => match (to, a, b, extra) {
+            (Some(to), None, None, Extra::Nothing) => Some(Instr::Ctx { to }),
+            _ => None,
+        },
+        Operation::Jmp => match (to, a, b, extra) {
+            (None, None, None, Extra::Target(target)) => Some(Instr::Jmp { target }),
+            _ => None,
+        },
+        Operation::Branch(test) => match (to, a, b, extra) {
+            (None, Some(a), Some(b), Extra::Target(target)) => Some(Instr::Branch {
+                test,
+                a,
+                b,
+                target,
+            }),
+            _ => None,
+        },
+        Operation::Load => match (to, a, b, extra) {
+            (Some(to), Some(address), None, Extra::Nothing) => Some(Instr::Load { to, address }),
+            _ => None,
+        },
+        Operation::Store => match (to, a, b, extra) {
+            (None, Some(address), Some(from), Extra::Nothing) => Some(Instr::Store {
+                address,
+                from,
+            }),
+            _ => None,
+        },
+        Operation::Yield => match (to, a, b, extra) {
+            (None, None, None, Extra::Nothing) => Some(Instr::Yield),
+            _ => None,
+        },
+        Operation::Recv => match (to, a, b, extra) {
+            (Some(to), None, None, Extra::Receive(channel)) => Some(Instr::Recv { to, channel }),
+            _ => None,
+        },
+        Operation::Send => match (to, a, b, extra) {
+            (None, Some(from), None, Extra::Send(channel)) => Some(Instr::Send { channel, from }),
+            _ => None,
+        },
+        Operation::Halt => match (to, a, b, extra) {
+            (None, None, None, Extra::Nothing) => Some(Instr::Halt),
+            _ => None,
+        },
     }
 }
