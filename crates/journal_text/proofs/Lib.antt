@@ -3,6 +3,6 @@ mod Parting
 mod Numerals
 mod FirstLines
 mod Spelling
-mod Telling
+pub mod Telling
 mod Progress
 mod Reading

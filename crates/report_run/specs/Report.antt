@@ -1,6 +1,6 @@
 -- The text of a run's report, line by line.
-use Rattle.std.specs.Prelude.{ℕ, ◌%◌, ◌^◌, ◌==◌, List, [], ◌∷◌, ◌++◌, length, map, filter, sum_by, count_by, not, Option, Some, None, slice_get, slice_index, decimal, codes, if◌then◌else◌}
-use Rattle.std.specs.List.{flat_map}
+use Rattle.std.specs.Prelude.{◌≡◌, ℕ, ◌%◌, ◌^◌, ◌==◌, List, [], ◌∷◌, ◌++◌, length, map, filter, sum_by, count_by, not, Option, Some, None, slice_get, slice_index, decimal, codes, if◌then◌else◌}
+use Rattle.std.specs.List.{flat_map, AllByRecursion}
 use Rattle.micro_isa.specs.declared.program.Channel.{Channel}
 use Rattle.micro_isa.specs.declared.program.Channel.TheVariants.{Inner, Input, Output}
 use Rattle.micro_isa.specs.declared.image.Code.{Code}
@@ -13,8 +13,8 @@ use Rattle.world.specs.declared.event.View.{View}
 use Rattle.world.specs.declared.event.End.{End}
 use Rattle.world.specs.declared.event.End.TheVariants.{Finished, Stuck, Bound, Idle}
 use Rattle.report_run.specs.declared.report.Outcome.{Outcome}
-use Rattle.report_run.specs.Text.{newline, numbers, number_line, in_order}
-use Rattle.journal_text.specs.Entries.{trap_word, entry_line}
+use Rattle.micro_kit.specs.Text.{newline, numbers, number_line, in_order}
+use Rattle.journal_text.specs.Entries.{trap_word, entry_line, IsFitting}
 
 abbrev pub need_line : Option ℕ → List ℕ
 need_line None = []
@@ -119,6 +119,11 @@ report_text need image channels entries last =
     ++ file_line last.file
     ++ number_line (codes "steps ") last.view.steps
     ++ end_line last.ending
+
+-- no other entries have this text where all else is the same
+abbrev pub TellsEntries : List ℕ → Option ℕ → Option Image → List Channel → List Entry → Outcome → Type 0
+TellsEntries text need image channels entries last =
+    (others : List Entry) → AllByRecursion IsFitting entries → AllByRecursion IsFitting others → text ≡ report_text need image channels others last → others ≡ entries
 
 -- the sum of the words that were put out, modulo 2^32
 abbrev pub sum_out : List Put → ℕ

@@ -3,9 +3,8 @@
 ghost use Rattle.std.specs.Prelude.{◌≡◌, ◌++◌, not, count_by, OnOk, IfOk};
 ghost use Rattle.report_run.specs.Report.{private_sizes, private_part, budget_line, glue_words, image_lines};
 
-use crate::text::{put_bytes, put_count, put_number_line};
 use micro_isa::{Code, Image, List, NoMemory, Word};
-use micro_kit::put_number;
+use micro_kit::{put_bytes, put_count, put_named, put_number_line};
 
 /// The sizes of the ranges, and the number of words that are not counted.
 pub(crate) fn put_image(text: &mut Vec<u8>, image: &Image) -> Result<(), NoMemory>
@@ -35,8 +34,7 @@ fn put_private_sizes(text: &mut Vec<u8>, contexts: &List<Code>) -> Result<(), No
     ensures { OnOk result (text.new.items ≡ text.old.items ++ private_sizes contexts.now) }
 {
     for code in contexts.as_slice() {
-        put_bytes(text, b" ")?;
-        put_number(text, code.private.size)?;
+        put_named(text, b" ", code.private.size)?;
     }
     Ok(())
 }

@@ -5,7 +5,6 @@ mod image;
 mod lines;
 mod report;
 mod soak;
-mod text;
 
 pub use report::{Outcome, print_report};
 pub use soak::print_soak;

@@ -1,15 +1,14 @@
 //! The lines of what a run shows, each kind by one function.
 
-ghost use Rattle.std.specs.Prelude.{◌≡◌, ◌++◌, decimal, OnOk};
+ghost use Rattle.std.specs.Prelude.{◌≡◌, ◌++◌, OnOk};
 ghost use Rattle.std.specs.Option.{option_copied};
 ghost use Rattle.world.specs.declared.event.Phase.TheVariants.{Sending, Trapped};
-ghost use Rattle.report_run.specs.Text.{numbers};
+ghost use Rattle.micro_kit.specs.Text.{numbers};
 ghost use Rattle.report_run.specs.Report.{put_on, output_words, output_line, held_line, queue_line, memory_line, memory_lines, phase_words, context_line, file_line, ending_word, end_line};
 
-use crate::text::{put_bytes, put_count, put_numbers};
 use journal_text::trap_word;
 use micro_isa::{Channel, List, NoMemory};
-use micro_kit::put_number;
+use micro_kit::{put_bytes, put_count, put_named, put_numbers};
 use world::{End, Output, Phase, Trap};
 
 pub(crate) fn put_output(
@@ -42,8 +41,7 @@ fn put_words_on(text: &mut Vec<u8>, outputs: &[Output], k: usize) -> Result<(), 
         if output.channel as usize != k {
             continue;
         }
-        put_bytes(text, b" ")?;
-        put_number(text, output.word)?;
+        put_named(text, b" ", output.word)?;
     }
     Ok(())
 }
@@ -78,7 +76,7 @@ fn put_held(text: &mut Vec<u8>, k: usize, left: &[u32], ring: &[u32]) -> Result<
     put_bytes(text, b"\n")
 }
 
-#[tactic(auto, using(crate::proofs::Steps::next_text))]
+#[tactic(auto, using(micro_kit::proofs::InOrder::next_list))]
 pub(crate) fn put_memory(text: &mut Vec<u8>, memory: &[u32]) -> Result<(), NoMemory>
     ensures { OnOk result (text.new.items ≡ text.old.items ++ memory_lines memory.now) }
 {
@@ -96,8 +94,7 @@ fn put_memory_word(text: &mut Vec<u8>, address: usize, word: u32) -> Result<(), 
     }
     put_bytes(text, b"memory ")?;
     put_count(text, address)?;
-    put_bytes(text, b" ")?;
-    put_number(text, word)?;
+    put_named(text, b" ", word)?;
     put_bytes(text, b"\n")
 }
 
@@ -135,13 +132,6 @@ fn put_phase(text: &mut Vec<u8>, phase: Phase) -> Result<(), NoMemory>
         Phase::Halted => put_bytes(text, b"halted"),
         Phase::Trapped { trap, line } => put_trapped(text, trap, line),
     }
-}
-
-fn put_named(text: &mut Vec<u8>, word: &[u8], n: u32) -> Result<(), NoMemory>
-    ensures { OnOk result (text.new.items ≡ text.old.items ++ (word.now ++ decimal n)) }
-{
-    put_bytes(text, word)?;
-    put_number(text, n)
 }
 
 fn put_sending(text: &mut Vec<u8>, channel: u8, word: u32) -> Result<(), NoMemory>

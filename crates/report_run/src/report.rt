@@ -2,13 +2,13 @@ ghost use Rattle.std.specs.Prelude.{◌≡◌, ◌++◌, OnOk, IfOk};
 ghost use Rattle.std.specs.Option.{option_copied};
 ghost use Rattle.std.specs.List.{flat_map};
 ghost use Rattle.journal_text.specs.Entries.{entry_line};
-ghost use Rattle.report_run.specs.Report.{report_text, need_line, image_lines, output_lines, queue_lines, context_lines, view_lines};
+ghost use Rattle.report_run.specs.Report.{report_text, TellsEntries, need_line, image_lines, output_lines, queue_lines, context_lines, view_lines};
 
 use crate::image::put_image;
 use crate::lines::{put_context, put_end, put_file, put_memory, put_output, put_queue};
-use crate::text::put_number_line;
 use journal_text::put_entry;
 use micro_isa::{Channel, Image, List, NoMemory};
+use micro_kit::put_number_line;
 use std::alloc::Global;
 use world::{End, Entry, Output, Phase, View};
 
@@ -21,9 +21,26 @@ pub struct Outcome {
     pub ending: Option<End>,
 }
 
-/// The text of a report. The lines of `need` and of `image` are left out where there is none.
-#[tactic(auto, unfolding(crate::specs::Report::report_text))]
+/// The text of a report. The lines of `need` and of `image` are left out where there is none. The
+/// text tells its entries.
+#[tactic(auto, using(crate::proofs::Telling::tells))]
 pub fn print_report(
+    alloc: Global,
+    need: Option<u32>,
+    image: Option<&Image>,
+    channels: &List<Channel>,
+    entries: &[Entry],
+    last: &Outcome,
+) -> Result<Vec<u8>, NoMemory>
+    ensures text { IfOk result (λ text. text.items ≡ report_text need (option_copied image.entry) channels.now entries.now last.now) }
+    ensures once { IfOk result (λ text. TellsEntries text.items need (option_copied image.entry) channels.now entries.now last.now) }
+{
+    let text = report_text(alloc, need, image, channels, entries, last)?;
+    Ok(text)
+}
+
+#[tactic(auto, unfolding(crate::specs::Report::report_text))]
+fn report_text(
     alloc: Global,
     need: Option<u32>,
     image: Option<&Image>,
@@ -81,7 +98,7 @@ fn put_view(text: &mut Vec<u8>, channels: &List<Channel>, view: &View) -> Result
     put_contexts(text, &view.phases)
 }
 
-#[tactic(auto, using(crate::proofs::Steps::next_text))]
+#[tactic(auto, using(micro_kit::proofs::InOrder::next_list))]
 fn put_outputs(
     text: &mut Vec<u8>,
     channels: &List<Channel>,
@@ -95,7 +112,7 @@ fn put_outputs(
     Ok(())
 }
 
-#[tactic(auto, using(crate::proofs::Steps::next_text))]
+#[tactic(auto, using(micro_kit::proofs::InOrder::next_list))]
 fn put_queues(text: &mut Vec<u8>, channels: &List<Channel>, view: &View) -> Result<(), NoMemory>
     ensures { OnOk result (text.new.items ≡ text.old.items ++ queue_lines channels.now view.now) }
 {
@@ -111,7 +128,7 @@ fn put_queues(text: &mut Vec<u8>, channels: &List<Channel>, view: &View) -> Resu
     Ok(())
 }
 
-#[tactic(auto, using(crate::proofs::Steps::next_text))]
+#[tactic(auto, using(micro_kit::proofs::InOrder::next_list))]
 fn put_contexts(text: &mut Vec<u8>, phases: &List<Phase>) -> Result<(), NoMemory>
     ensures { OnOk result (text.new.items ≡ text.old.items ++ context_lines phases.now) }
 {

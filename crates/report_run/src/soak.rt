@@ -6,8 +6,8 @@ ghost use Rattle.report_run.specs.Report.{sum_out, soak_summary};
 use crate::image::put_image;
 use crate::lines::put_end;
 use crate::report::Outcome;
-use crate::text::{put_count_line, put_number_line};
 use micro_isa::{Image, NoMemory};
+use micro_kit::{put_count_line, put_number_line};
 use std::alloc::Global;
 use world::{Entry, Output};
 

@@ -1,5 +1,5 @@
 use Rattle.std.proofs.Common.{◌≡◌, ◌++◌, take}
-use Rattle.report_run.specs.Text.{numbers}
+use Rattle.micro_kit.specs.Text.{numbers}
 use Rattle.report_run.specs.Report.{put_on}
 use Rattle.report_run.proofs.lines.put_words_on.Given as goal
 

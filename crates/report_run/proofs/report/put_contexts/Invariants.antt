@@ -1,6 +1,6 @@
 use Rattle.std.proofs.Common.{◌≡◌, ◌++◌}
 use Rattle.std.specs.Prelude.{slice_get}
-use Rattle.report_run.specs.Text.{in_order}
+use Rattle.micro_kit.specs.Text.{in_order}
 use Rattle.report_run.specs.Report.{context_line}
 use Rattle.report_run.proofs.report.put_contexts.Given as goal
 
