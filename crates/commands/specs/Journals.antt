@@ -1,7 +1,8 @@
 -- What a task tells of a bundle and a journal.
-use Rattle.std.specs.Prelude.{◌≡◌, ℕ, ◌≤◌, ◌⊎◌, List, [], ◌∷◌, ◌++◌, Some, decimal, codes}
+use Rattle.std.specs.Prelude.{◌≡◌, ℕ, ◌≤◌, ◌⊎◌, List, ◌++◌, Some, decimal, codes}
 use Rattle.micro_isa.specs.declared.program.Bundle.{Bundle}
 use Rattle.micro_isa.specs.declared.image.Image.{Image}
+use Rattle.micro_kit.specs.Text.{newline}
 use Rattle.world.specs.declared.event.Entry.{Entry}
 use Rattle.semantics.specs.Events.{Config}
 use Rattle.semantics.specs.Entries.{LeadsTo}
@@ -22,16 +23,16 @@ use Rattle.commands.specs.Tells.{WhereItFits, FitsFile}
 
 -- `journal E reading`
 abbrev pub unread_line : ℕ → List ℕ
-unread_line at = codes "journal " ++ decimal at ++ codes " reading" ++ 10 ∷ []
+unread_line at = codes "journal " ++ decimal at ++ codes " reading" ++ newline
 
 -- `journal E illegal ENTRY`
 abbrev pub illegal_line : ℕ → Entry → List ℕ
-illegal_line at written = codes "journal " ++ decimal at ++ codes " illegal " ++ entry_words written ++ 10 ∷ []
+illegal_line at written = codes "journal " ++ decimal at ++ codes " illegal " ++ entry_words written ++ newline
 
 -- `journal E differs ENTRY found ENTRY`
 abbrev pub differs_line : ℕ → Entry → Entry → List ℕ
 differs_line at written found =
-    codes "journal " ++ decimal at ++ codes " differs " ++ entry_words written ++ codes " found " ++ entry_words found ++ 10 ∷ []
+    codes "journal " ++ decimal at ++ codes " differs " ++ entry_words written ++ codes " found " ++ entry_words found ++ newline
 
 -- a line is no entry, and the first such one is told
 pub record IsUnread (lines : List ℕ) (answer : Status) (text : List ℕ) : Type 0 where

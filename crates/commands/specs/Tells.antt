@@ -1,8 +1,9 @@
 -- What each task tells of its input, and with which status.
-use Rattle.std.specs.Prelude.{◌≡◌, ℕ, ◌<◌, ◌≤◌, ◌⊎◌, List, [], ◌∷◌, ◌++◌, Bool, true, false, Some, None, decimal, codes}
+use Rattle.std.specs.Prelude.{◌≡◌, ℕ, ◌<◌, ◌≤◌, ◌⊎◌, List, ◌++◌, Bool, true, false, Some, None, decimal, codes}
 use Rattle.micro_isa.specs.declared.program.Bundle.{Bundle}
 use Rattle.micro_isa.specs.declared.image.Image.{Image}
 use Rattle.micro_isa.specs.declared.limits.TheConstants.{MOST_STEPS}
+use Rattle.micro_kit.specs.Text.{newline}
 use Rattle.semantics.specs.Agreement.{Implements}
 use Rattle.allocate.specs.declared.allocation.Allocation.{Allocation}
 use Rattle.allocate.specs.Needs.{HasNeed, IsNeed}
@@ -32,7 +33,7 @@ is_round Threads = false
 
 -- `nofit need N file F`
 abbrev pub no_fit_line : ℕ → ℕ → List ℕ
-no_fit_line need file = codes "nofit need " ++ decimal need ++ codes " file " ++ decimal file ++ 10 ∷ []
+no_fit_line need file = codes "nofit need " ++ decimal need ++ codes " file " ++ decimal file ++ newline
 
 -- the registers that a bundle's contexts need together are more than its file has, and the line tells both
 pub record DoesNotFit (answer : Status) (b : Bundle) (text : List ℕ) : Type 0 where
