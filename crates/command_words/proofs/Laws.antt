@@ -1,13 +1,14 @@
 -- Laws of the meaning of words: where an option stands does not matter, both its spellings are the same, twice is too
 -- often, and a stray word leaves no meaning.
-use Rattle.std.proofs.Common.{◌≡◌, ◌++◌, ◌&&◌, Bool, true, false, List, [], ◌∷◌, map, Option, Some, None, if◌then◌else◌, refl, sym, ap, ◌∙◌, option_map, option_and_then}
+use Rattle.std.proofs.Common.{◌≡◌, ◌++◌, ◌&&◌, Bool, true, false, List, [], ◌∷◌, map, Option, Some, None, Result, Ok, Err, IfOk, if◌then◌else◌, refl, sym, ap, ◌∙◌, option_map, option_and_then}
 use Rattle.std.proofs.lemmas.List.{map-append}
 use Rattle.std.specs.List.{list_any}
 use Rattle.command_words.specs.Texts.{Text, OptionName, steps, order, Word, plain, names, sets, stray, Texts, Parts, begins_with_hyphen, word_of, with_plain, with_value, texts_of, is_at_most_one, is_at_most_two, parts_of}
 use Rattle.command_words.specs.Meaning.{meaning_of, words_meaning}
 use Rattle.command_words.proofs.Spelling.{none_some, some_same}
-use Rattle.command_words.proofs.WordSteps.{spelt, attached}
-use Rattle.command_words.proofs.Strays.{is_stray, stray_no_texts}
+use Rattle.command_words.specs.declared.meaning.Meaning.{Meaning}
+use Rattle.command_words.specs.Spellings.{spelt, attached, is_stray, HasStray, MovesToFront, Attaches, GivesTwice}
+use Rattle.command_words.proofs.Strays.{stray_no_texts}
 
 -- the texts of words are those of their first part and then those of the rest
 abbrev pub joined : Texts → Texts → Texts
@@ -150,3 +151,24 @@ twice_is_usage n v w before middle after t u e f =
 -- a stray word, as `--` or `-h`, leaves no meaning
 pub stray_is_usage : (ws : List Text) → list_any is_stray (map word_of ws) ≡ true → words_meaning ws ≡ None
 stray_is_usage ws e = ap (λ o. option_and_then meaning_of (option_and_then parts_of o)) (stray_no_texts (map word_of ws) e)
+
+-- ---- the laws on what is read
+
+pub read_placed : {E : Type 0} (r : Result (Option Meaning) E) (words : List Text) → IfOk r (λ m. m ≡ words_meaning words) → IfOk r (λ m. (others : List Text) → MovesToFront words others → m ≡ words_meaning others)
+read_placed (Err e) words is = tt
+read_placed (Ok m) words is =
+    λ others moves. is ∙ ap words_meaning moves.here ∙ place_is_free moves.name moves.value moves.before moves.after moves.whole.0 moves.whole.1 ∙ sym (ap words_meaning moves.there)
+
+pub read_spelt : {E : Type 0} (r : Result (Option Meaning) E) (words : List Text) → IfOk r (λ m. m ≡ words_meaning words) → IfOk r (λ m. (others : List Text) → Attaches words others → m ≡ words_meaning others)
+read_spelt (Err e) words is = tt
+read_spelt (Ok m) words is =
+    λ others spells. is ∙ ap words_meaning spells.here ∙ spellings_agree spells.name spells.value spells.before spells.after spells.whole.0 spells.whole.1 spells.unhyphened ∙ sym (ap words_meaning spells.there)
+
+pub read_once : {E : Type 0} (r : Result (Option Meaning) E) (words : List Text) → IfOk r (λ m. m ≡ words_meaning words) → IfOk r (λ m. GivesTwice words → m ≡ None)
+read_once (Err e) words is = tt
+read_once (Ok m) words is =
+    λ twice. is ∙ ap words_meaning twice.here ∙ twice_is_usage twice.name twice.value twice.again twice.before twice.between twice.after twice.whole.0 twice.whole_between.0 twice.whole.1 twice.whole_between.1
+
+pub read_strays : {E : Type 0} (r : Result (Option Meaning) E) (words : List Text) → IfOk r (λ m. m ≡ words_meaning words) → IfOk r (λ m. HasStray words → m ≡ None)
+read_strays (Err e) words is = tt
+read_strays (Ok m) words is = λ has. is ∙ stray_is_usage words has

@@ -5,14 +5,9 @@ use Rattle.std.proofs.lemmas.Bool.Decides.{Decides-eqb, nat_tests}
 use Rattle.std.specs.Str.{bytes_eq}
 use Rattle.std.specs.List.{list_all, list_any}
 use Rattle.command_words.specs.Texts.{Text, Word, plain, names, sets, stray, after, word_of, hyphened, texts_of}
+use Rattle.command_words.specs.Spellings.{is_stray}
 use Rattle.command_words.specs.Hyphens.{is_double, is_fit}
 use Rattle.command_words.proofs.Spelling.{and_false, same_if}
-
-abbrev pub is_stray : Word → Bool
-is_stray stray = true
-is_stray (plain w) = false
-is_stray (names n) = false
-is_stray (sets n v) = false
 
 -- a stray word anywhere leaves no texts
 pub stray_no_texts : (ws : List Word) → list_any is_stray ws ≡ true → texts_of ws ≡ None

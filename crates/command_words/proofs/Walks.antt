@@ -12,7 +12,8 @@ use Rattle.command_words.specs.Texts.{Text, OptionName, steps, order, Word, plai
 use Rattle.command_words.specs.Hyphens.{is_fit}
 use Rattle.command_words.proofs.Spelling.{and_left, and_right}
 use Rattle.command_words.proofs.Slots.{shape, rules, Slot, first, second, valued, id_of, part, rows_of, with_pending, with_used}
-use Rattle.command_words.proofs.WordSteps.{at, waits, spelt, attached, Reads, reads, Fails, fails_left, hyphens_shape, walked_first, walked_second, passes_first, passes_second, fault_first, fault_second, fault_third, walked_name, passes_name, fault_name, walked_value, passes_value, fault_value, walked_attached, passes_attached, fault_attached, twice_pending, twice_attached, waits_bad, fault_hyphens, fault_plain}
+use Rattle.command_words.specs.Spellings.{spelt, attached}
+use Rattle.command_words.proofs.WordSteps.{at, waits, Reads, reads, Fails, fails_left, hyphens_shape, walked_first, walked_second, passes_first, passes_second, fault_first, fault_second, fault_third, walked_name, passes_name, fault_name, walked_value, passes_value, fault_value, walked_attached, passes_attached, fault_attached, twice_pending, twice_attached, waits_bad, fault_hyphens, fault_plain}
 use Rattle.command_words.proofs.Held.{Stands, stands_pending, stands_used, use_once, is_free}
 use Rattle.command_words.proofs.States.{Plains, nothing, one, two, State, parts, position, plain_next, value_next, parts_with, reading, on, plain_reading, value_reading, all_read}
 

@@ -12,6 +12,7 @@ use Rattle.clap.specs.Faults.{turn_fault, settle_fault, step_fault, long_fault, 
 use Rattle.clap.specs.Kinds.{or_else, Kinds}
 use Rattle.clap.specs.declared.error.kind.ErrorKind.{ErrorKind}
 use Rattle.command_words.specs.Texts.{Text, OptionName, steps, order, Word, plain, names, sets, stray, begins_with_hyphen, after, hyphened, word_of, sets_one_of}
+use Rattle.command_words.specs.Spellings.{spelt, attached}
 use Rattle.command_words.specs.Hyphens.{is_double, is_fit}
 use Rattle.command_words.proofs.Rows.{two_sides}
 use Rattle.command_words.proofs.Spelling.{named, after_only, none_some, and_false}
@@ -24,14 +25,6 @@ at h n = record { held = h; waiting = idle; position = n; is_trailing = false; s
 -- an option waits for its value
 abbrev pub waits : Held → OptionName → ℕ → Walk
 waits h n k = record (at (with_pending h (id_of (valued n)) []) k) { waiting = option (id_of (valued n)) }
-
-abbrev pub spelt : OptionName → Text
-spelt steps = codes "--steps"
-spelt order = codes "--order"
-
-abbrev pub attached : OptionName → Text
-attached steps = codes "--steps="
-attached order = codes "--order="
 
 -- ---- texts
 
@@ -218,23 +211,23 @@ Reads w (names n) = w ≡ spelt n
 Reads w (sets n v) = w ≡ attached n ++ v
 Reads w stray = (h : Held) (k : ℕ) → Fails (turn_fault shape [] (at h k) w)
 
+spelt_is : (n : OptionName) → spelt n ≡ 45 ∷ 45 ∷ option_text n
+spelt_is steps = refl
+spelt_is order = refl
+
+attached_is : (n : OptionName) (v : Text) → after (attached n) (45 ∷ 45 ∷ (option_text n ++ 61 ∷ v)) ≡ Some v
+attached_is steps v = refl
+attached_is order v = refl
+
 no_name : (n : OptionName) (x : ℕ) (xs : Text) (w : Text) → w ≡ 45 ∷ 45 ∷ x ∷ xs → bytes_eq w (spelt n) ≡ false → after (attached n) w ≡ None → bytes_eq (option_text n) (before_first (λ x. x == 61) (x ∷ xs)) ≡ false
-no_name steps x xs w s other none =
-    let go : (b : Bool) → bytes_eq (codes "steps") (before_first (λ x. x == 61) (x ∷ xs)) ≡ b → b ≡ false = elim [
+no_name n x xs w s other none =
+    let go : (b : Bool) → bytes_eq (option_text n) (before_first (λ x. x == 61) (x ∷ xs)) ≡ b → b ≡ false = elim [
       | true ↦ λ t. absurd (⊎_elim
-          (λ (m : (x ∷ xs) ≡ codes "steps"). two_sides (bytes_eq w (spelt steps)) ((bytes_eq-Decides w (spelt steps)).1 (s ∙ ap (λ u. 45 ∷ 45 ∷ u) m)) other)
-          (λ (m : (v : Text) × ((x ∷ xs) ≡ codes "steps" ++ 61 ∷ v)). none_some m.0 (sym none ∙ ap (after (attached steps)) (s ∙ ap (λ u. 45 ∷ 45 ∷ u) m.1)))
-          (named (codes "steps") (x ∷ xs) t))
+          (λ (m : (x ∷ xs) ≡ option_text n). two_sides (bytes_eq w (spelt n)) ((bytes_eq-Decides w (spelt n)).1 (s ∙ ap (λ u. 45 ∷ 45 ∷ u) m ∙ sym (spelt_is n))) other)
+          (λ (m : (v : Text) × ((x ∷ xs) ≡ option_text n ++ 61 ∷ v)). none_some m.0 (sym none ∙ ap (after (attached n)) (s ∙ ap (λ u. 45 ∷ 45 ∷ u) m.1) ∙ attached_is n m.0))
+          (named (option_text n) (x ∷ xs) t))
       | false ↦ λ t. refl
-    ] in go (bytes_eq (codes "steps") (before_first (λ x. x == 61) (x ∷ xs))) refl
-no_name order x xs w s other none =
-    let go : (b : Bool) → bytes_eq (codes "order") (before_first (λ x. x == 61) (x ∷ xs)) ≡ b → b ≡ false = elim [
-      | true ↦ λ t. absurd (⊎_elim
-          (λ (m : (x ∷ xs) ≡ codes "order"). two_sides (bytes_eq w (spelt order)) ((bytes_eq-Decides w (spelt order)).1 (s ∙ ap (λ u. 45 ∷ 45 ∷ u) m)) other)
-          (λ (m : (v : Text) × ((x ∷ xs) ≡ codes "order" ++ 61 ∷ v)). none_some m.0 (sym none ∙ ap (after (attached order)) (s ∙ ap (λ u. 45 ∷ 45 ∷ u) m.1)))
-          (named (codes "order") (x ∷ xs) t))
-      | false ↦ λ t. refl
-    ] in go (bytes_eq (codes "order") (before_first (λ x. x == 61) (x ∷ xs))) refl
+    ] in go (bytes_eq (option_text n) (before_first (λ x. x == 61) (x ∷ xs))) refl
 
 stray_fault : (w : Text) (x : ℕ) (xs : Text) → w ≡ 45 ∷ 45 ∷ x ∷ xs → bytes_eq w (spelt steps) ≡ false → bytes_eq w (spelt order) ≡ false → after (attached steps) w ≡ None → after (attached order) w ≡ None → Reads w stray
 stray_fault w x xs s e f a b h k =

@@ -1,5 +1,6 @@
-ghost use Rattle.std.specs.Prelude.{◌≡◌, ◌≤◌, IfOk, IfSome, map, string_bytes, option_map};
+ghost use Rattle.std.specs.Prelude.{◌≡◌, ◌≤◌, ℕ, List, None, IfOk, IfSome, map, string_bytes, option_map};
 ghost use Rattle.command_words.specs.Command.{given_parts};
+ghost use Rattle.command_words.specs.Spellings.{MovesToFront, Attaches, GivesTwice, HasStray};
 ghost use Rattle.command_words.specs.Meaning.{verb_of, number_for, is_bounded, steps_for, is_ordered, turns_of, turns_for, meaning_for, meaning_of, words_meaning};
 
 use crate::meaning::{Meaning, Turns, Verb};
@@ -12,7 +13,23 @@ use std::alloc::Global;
 const DEFAULT_STEPS: u32 = 100_000;
 
 /// What the words behind the program's name mean. None exactly where they are no use of it.
+#[tactic(auto, using(crate::proofs::Laws::read_placed, crate::proofs::Laws::read_spelt, crate::proofs::Laws::read_once))]
 pub fn read_words(alloc: Global, words: &[String]) -> Result<Option<Meaning>, NoMemory>
+    ensures meaning { IfOk result (λ meaning. meaning ≡ words_meaning (map string_bytes words.now)) }
+    ensures bounded { IfOk result (λ meaning. IfSome meaning (λ m. m.steps ≤ MOST_STEPS)) }
+
+    // An option means the same wherever it stands, and with its value attached or behind it.
+    ensures placed { IfOk result (λ meaning. (others : List (List ℕ)) → MovesToFront (map string_bytes words.now) others → meaning ≡ words_meaning others) }
+    ensures spelt { IfOk result (λ meaning. (others : List (List ℕ)) → Attaches (map string_bytes words.now) others → meaning ≡ words_meaning others) }
+
+    // An option that is given twice leaves no meaning, and neither does a stray word.
+    ensures once { IfOk result (λ meaning. GivesTwice (map string_bytes words.now) → meaning ≡ None) }
+    ensures strays { IfOk result (λ meaning. HasStray (map string_bytes words.now) → meaning ≡ None) }
+{
+    meaning_in(alloc, words)
+}
+
+fn meaning_in(alloc: Global, words: &[String]) -> Result<Option<Meaning>, NoMemory>
     ensures meaning { IfOk result (λ meaning. meaning ≡ words_meaning (map string_bytes words.now)) }
     ensures bounded { IfOk result (λ meaning. IfSome meaning (λ m. m.steps ≤ MOST_STEPS)) }
 {
