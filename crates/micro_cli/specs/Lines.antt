@@ -1,14 +1,12 @@
 -- The lines of refusals.
-use Rattle.std.specs.Prelude.{ℕ, List, [], ◌∷◌, ◌++◌, decimal, codes}
+use Rattle.std.specs.Prelude.{ℕ, List, ◌++◌, decimal, codes}
 use Rattle.micro_isa.specs.declared.limits.TheConstants.{LONGEST_BUNDLE, LONGEST_IMAGE, LONGEST_JOURNAL}
+use Rattle.micro_kit.specs.Text.{newline}
 use Rattle.asm_lines.specs.Faults.{At, kind_text}
 use Rattle.image_load.specs.declared.fault.ImageKind.{ImageKind}
 use Rattle.image_load.specs.Faults.{kind_text as image_kind_text}
 use Rattle.commands.specs.declared.task.Task.{Task}
 use Rattle.commands.specs.declared.task.Task.TheVariants.{OfBundle, OfImage, OfJournal}
-
-abbrev pub newline : List ℕ
-newline = 10 ∷ []
 
 -- how the program is called
 abbrev pub usage_line : List ℕ

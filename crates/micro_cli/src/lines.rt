@@ -1,6 +1,6 @@
 //! The lines of refusals.
 
-ghost use Rattle.std.specs.Prelude.{◌≡◌, ◌≤◌, ◌++◌, IfOk, OnOk};
+ghost use Rattle.std.specs.Prelude.{◌≡◌, ◌≤◌, IfOk};
 ghost use Rattle.commands.specs.declared.status.Status.TheVariants as status;
 ghost use Rattle.micro_cli.specs.Lines.{usage_line, limit_of, too_long_line, bad_bundle_line, bad_image_line};
 
@@ -8,7 +8,7 @@ use asm_lines::{BundleKind, kind_text};
 use commands::{Reply, Status, Task};
 use image_load::ImageKind;
 use micro_isa::{LONGEST_BUNDLE, LONGEST_IMAGE, LONGEST_JOURNAL, NoMemory};
-use micro_kit::put_number;
+use micro_kit::{put_bytes, put_number};
 use std::alloc::Global;
 
 pub(crate) fn usage_line(alloc: Global) -> Result<Vec<u8>, NoMemory>
@@ -52,7 +52,7 @@ fn too_long_line(alloc: Global, limit: usize) -> Result<Vec<u8>, NoMemory>
 {
     let mut text = text_of(alloc, b"toolong ")?;
     put_number(&mut text, limit as u32)?;
-    put_text(&mut text, b"\n")?;
+    put_bytes(&mut text, b"\n")?;
     Ok(text)
 }
 
@@ -65,9 +65,9 @@ pub(crate) fn bad_bundle_line(
 {
     let mut text = text_of(alloc, b"bundle ")?;
     put_number(&mut text, line)?;
-    put_text(&mut text, b" ")?;
-    put_text(&mut text, kind_text(kind))?;
-    put_text(&mut text, b"\n")?;
+    put_bytes(&mut text, b" ")?;
+    put_bytes(&mut text, kind_text(kind))?;
+    put_bytes(&mut text, b"\n")?;
     Ok(text)
 }
 
@@ -80,9 +80,9 @@ pub(crate) fn bad_image_line(
 {
     let mut text = text_of(alloc, b"image ")?;
     put_number(&mut text, offset)?;
-    put_text(&mut text, b" ")?;
-    put_text(&mut text, image_load::kind_text(kind))?;
-    put_text(&mut text, b"\n")?;
+    put_bytes(&mut text, b" ")?;
+    put_bytes(&mut text, image_load::kind_text(kind))?;
+    put_bytes(&mut text, b"\n")?;
     Ok(text)
 }
 
@@ -91,15 +91,6 @@ fn text_of(alloc: Global, bytes: &[u8]) -> Result<Vec<u8>, NoMemory>
 {
     match Vec::from_slice(alloc, bytes) {
         Ok(text) => Ok(text),
-        Err(_) => Err(NoMemory),
-    }
-}
-
-fn put_text(text: &mut Vec<u8>, bytes: &[u8]) -> Result<(), NoMemory>
-    ensures { OnOk result (text.new.items ≡ text.old.items ++ bytes.now) }
-{
-    match text.extend_from_slice(bytes) {
-        Ok(()) => Ok(()),
         Err(_) => Err(NoMemory),
     }
 }
