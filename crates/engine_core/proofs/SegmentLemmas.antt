@@ -1,8 +1,7 @@
 -- One segment of the engine is one event of the machine run.
-use Rattle.std.proofs.Common.{◌≡◌, ℕ, ◌<◌, ◌≤◌, List, length, Option, Some, None, Bool, true, false, refl, sym, ap, ◌∙◌, subst, inl, inr, arith}
-use Rattle.std.specs.Prelude.{slice_get, slice_set, ◌==◌, if◌then◌else◌}
-use Rattle.std.proofs.lemmas.Bool.{eqb-true, eqb-false, cases_eq}
-use Rattle.std.proofs.lemmas.Option.{same_Some, slice_get_within}
+use Rattle.std.proofs.Common.{◌≡◌, ℕ, ◌<◌, ◌≤◌, List, length, Some, None, true, refl, sym, ap, ◌∙◌, arith}
+use Rattle.std.specs.Prelude.{slice_get, slice_set, ◌==◌}
+use Rattle.std.proofs.lemmas.Option.{slice_get_within}
 use Rattle.std.proofs.lemmas.List.{length-set}
 use Rattle.micro_isa.specs.declared.image.PReg.{PReg}
 use Rattle.micro_isa.specs.declared.image.Word.{Word}
@@ -15,18 +14,12 @@ use Rattle.semantics.specs.Core.{Core, completion, completed, illegal_of}
 use Rattle.semantics.specs.Events.{given, after_stretch, fire}
 use Rattle.semantics.specs.Stretches.{stretch_in, stretch_of}
 use Rattle.semantics.specs.Machine.{Machine, machine_kind, with_active, words_of, words_in, machine_semantics}
-use Rattle.semantics.proofs.Waiting.{get-set_same, get-set_other}
+use Rattle.run_state.proofs.Replacing.{seen_after, each_after}
 use Rattle.run_state.proofs.Segments.{is_there}
 use Rattle.run_state.specs.declared.stretch.ContextPlace.{ContextPlace}
 use Rattle.run_state.specs.Running.{context_at}
 use Rattle.run_state.specs.Segments.{segment_of}
-use Rattle.engine_core.specs.EngineState.{kept_of, config_of, IsSound}
-
--- the contexts after a write are the contexts with one replaced
-kept_after : (ks : List (ContextPlace PReg)) (c : ℕ) (k : ContextPlace PReg) → c < length ks → (d : ℕ) (b : Bool) → (d == c) ≡ b → (if b then record { at = k.at; pending = k.pending } else kept_of (slice_get ks d)) ≡ kept_of (slice_get (slice_set ks c k) d)
-kept_after ks c k lt d true is =
-    ap kept_of (sym (get-set_same ks c k lt)) ∙ ap (λ e. kept_of (slice_get (slice_set ks c k) e)) (sym (eqb-true d c is))
-kept_after ks c k lt d false is = ap kept_of (sym (get-set_other ks c d k (eqb-false d c is)))
+use Rattle.engine_core.specs.EngineState.{kept_of, config_of, IsContext, IsSound}
 
 -- a segment of a context is what happens to the machine
 pub segment_is : (image : Image) (core core2 : Core) (file file2 : List ℕ) (ks : List (ContextPlace PReg)) (c : ℕ) (k k2 : ContextPlace PReg) (words : List Word) (seen : Seen) → slice_get ks c ≡ Some k → words_of image c ≡ words → segment_of machine_kind c words core (context_at k.at file k.pending) ≡ (record { core = core2; state = context_at k2.at file2 k2.pending }, seen) → fire (machine_semantics image) (config_of (record { image = image; core = core; file = file; contexts = ks })) (Run c) ≡ (config_of (record { image = image; core = core2; file = file2; contexts = slice_set ks c k2 }), seen)
@@ -35,7 +28,7 @@ segment_is image core core2 file file2 ks c k k2 words seen at code went =
     let lt = slice_get_within ks c k at in
     (λ i. after_stretch (completed core c) c (completion core c) (stretch_in (with_active st c) (stretch_of machine_kind c (code i) (given core c) (record { kept = kept_of (at i); values = file }))))
     ∙ (λ i. (record { core = (went i).0.core; state = with_active st c (went i).0.state }, (went i).1))
-    ∙ (λ i. (record { core = core2; state = record { file = file2; contexts = λ d. kept_after ks c k2 lt d (d == c) refl i } }, seen))
+    ∙ (λ i. (record { core = core2; state = record { file = file2; contexts = λ d. seen_after kept_of ks c k2 lt d (d == c) refl i } }, seen))
 
 -- the engine stays sound where a context comes to a place within its words
 pub stays_sound : (image : Image) (core core' : Core) (ks : List (ContextPlace PReg)) (c : ℕ) (k0 k : ContextPlace PReg) → IsSound image core ks → slice_get ks c ≡ Some k0 → length core'.phases ≡ length core.phases → ((code : Code) → slice_get image.contexts c ≡ Some code → k.at ≤ length code.words) → ((code : Code) → slice_get image.contexts c ≡ Some code → writes_within code.private image.shared k.pending ≡ true) → IsSound image core' (slice_set ks c k)
@@ -43,16 +36,10 @@ stays_sound image core core' ks c k0 k s old same placed awaits = record {
   formed = s.formed;
   as_many = length-set ks c k ∙ s.as_many ∙ sym same;
   as_many_words = s.as_many_words ∙ sym same;
-  each = λ d code kd is_code is_k. elim (cases_eq d c) [
-    | inl e ↦
-        let here : slice_get image.contexts c ≡ Some code = ap (λ n. slice_get image.contexts n) (sym e) ∙ is_code in
-        let kd_is : k ≡ kd = same_Some k kd (sym (get-set_same ks c k (slice_get_within ks c k0 old)) ∙ ap (λ n. slice_get (slice_set ks c k) n) (sym e) ∙ is_k) in
-        record {
-          within = subst (λ n. n.at ≤ length code.words) kd_is (placed code here);
-          pending = subst (λ n. writes_within code.private image.shared n.pending ≡ true) kd_is (awaits code here);
-        }
-    | inr ne ↦ s.each d code kd is_code (sym (get-set_other ks c d k ne) ∙ is_k)
-  ];
+  each = each_after (IsContext image) image.contexts ks c k0 k old s.each (λ code here. record {
+    within = placed code here;
+    pending = awaits code here;
+  });
 }
 
 pub words_read : (image : Image) (c : ℕ) (code : Code) → slice_get image.contexts c ≡ Some code → words_of image c ≡ code.words

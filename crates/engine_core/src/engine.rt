@@ -14,7 +14,7 @@ use micro_isa::{Image, NoMemory, PReg, Word};
 use run_state::{ContextPlace, Interpreter, RegisterList, RunCore, segment};
 use std::alloc::Global;
 use std::marker::Model;
-use world::{End, Event, Illegal, Segment, View};
+use world::{Segment, View};
 
 /// A run of an image. Opening it takes all the memory that it will need; only `view` takes more.
 #[derive(Drop)]
@@ -66,13 +66,6 @@ impl Engine {
             file,
             contexts,
         })
-    }
-
-    /// The first cause for which an event may not happen.
-    pub fn illegal(&self, event: Event) -> Option<Illegal>
-        ensures { result ≡ illegal_of self.now.core event }
-    {
-        self.core.illegal(event)
     }
 
     /// What the run shows.
@@ -129,16 +122,8 @@ impl Interpreter for Engine {
 
     ghost config = { config_of };
 
-    fn contexts(&self) -> u32 {
-        self.contexts.len() as u32
-    }
-
-    fn runnable(&self, context: u32) -> bool {
-        self.core.is_runnable(context)
-    }
-
-    fn ending(&self) -> Option<End> {
-        self.core.ending()
+    fn core(&self) -> &RunCore {
+        &self.core
     }
 
     fn segment(&mut self, context: u32) -> Segment
@@ -155,10 +140,6 @@ impl Interpreter for Engine {
             &mut self.contexts,
             context,
         )
-    }
-
-    fn plugged(&self, channel: u8) -> bool {
-        self.core.plugged(channel)
     }
 
     #[tactic(auto, using(crate::proofs::Ports::unplugs))]

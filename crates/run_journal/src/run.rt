@@ -18,6 +18,7 @@ use crate::{attaching, following, pumps, turns};
 use engine_core::Engine;
 use micro_isa::{Image, NoMemory};
 use ports::{Port, Slots};
+use run_state::Interpreter;
 use std::alloc::Global;
 use std::marker::Model;
 use world::{End, Entry};

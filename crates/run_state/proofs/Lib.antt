@@ -3,3 +3,4 @@ pub mod Memory
 pub mod Segments
 pub mod Running
 pub mod Putting
+pub mod Replacing

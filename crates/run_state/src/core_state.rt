@@ -92,6 +92,13 @@ impl RunCore {
         }
     }
 
+    /// The number of contexts.
+    pub(crate) fn contexts(&self) -> usize
+        ensures { result ≡ length self.now.phases }
+    {
+        self.phases.len()
+    }
+
     /// Whether a context can go on; false where there is none of this number.
     pub fn is_runnable(&self, context: u32) -> bool
         ensures { result ≡ is_runnable self.now context }

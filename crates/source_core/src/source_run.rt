@@ -4,7 +4,7 @@ ghost use Rattle.world.specs.WorldState.{is_plugged};
 ghost use Rattle.micro_isa.specs.Formed.{IsFormedBundle};
 ghost use Rattle.world.specs.declared.event.Event.TheVariants.{Run as RunOf, Feed as FeedOf, Unplug as UnplugOf};
 ghost use Rattle.world.specs.declared.event.Seen.TheVariants.{Ran as RanOf, Fed as FedOf, Unplugged as UnpluggedOf};
-ghost use Rattle.semantics.specs.Core.{illegal_of, is_runnable, ending_of, shown_core};
+ghost use Rattle.semantics.specs.Core.{illegal_of, shown_core};
 ghost use Rattle.semantics.specs.Events.{fire, step};
 ghost use Rattle.semantics.specs.Source.{Contexts, code_of, source_semantics, source_open};
 ghost use Rattle.run_state.specs.Segments.{GoesOn};
@@ -15,7 +15,7 @@ use micro_isa::{Bundle, Line, NoMemory, Program};
 use run_state::{ContextPlace, Interpreter, RegisterList, RunCore};
 use std::alloc::Global;
 use std::marker::Model;
-use world::{End, Event, Illegal, Seen, Segment, View};
+use world::{Event, Illegal, Seen, Segment, View};
 
 /// A run of a bundle. Opening it takes all the memory that it will need; only `view` takes more.
 #[derive(Drop)]
@@ -52,13 +52,6 @@ impl SourceRun {
             core,
             contexts,
         })
-    }
-
-    /// The first cause for which an event may not happen.
-    pub fn illegal(&self, event: Event) -> Option<Illegal>
-        ensures { result ≡ illegal_of self.now.core event }
-    {
-        self.core.illegal(event)
     }
 
     /// One event. An illegal one changes nothing and is answered by its first cause.
@@ -107,16 +100,8 @@ impl Interpreter for SourceRun {
 
     ghost config = { config_of };
 
-    fn contexts(&self) -> u32 {
-        self.contexts.len() as u32
-    }
-
-    fn runnable(&self, context: u32) -> bool {
-        self.core.is_runnable(context)
-    }
-
-    fn ending(&self) -> Option<End> {
-        self.core.ending()
+    fn core(&self) -> &RunCore {
+        &self.core
     }
 
     fn segment(&mut self, context: u32) -> Segment
@@ -126,10 +111,6 @@ impl Interpreter for SourceRun {
         ensures goes_on { GoesOn self.old.core self.new.core }
     {
         segment_of(&self.bundle, &mut self.core, &mut self.contexts, context)
-    }
-
-    fn plugged(&self, channel: u8) -> bool {
-        self.core.plugged(channel)
     }
 
     #[tactic(auto, using(crate::proofs::Ports::unplugs))]
