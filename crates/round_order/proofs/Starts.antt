@@ -4,12 +4,10 @@ use Rattle.std.proofs.lemmas.List.{length-map}
 use Rattle.micro_isa.specs.declared.limits.TheConstants.{MOST_CHANNELS}
 use Rattle.micro_isa.specs.declared.program.Setting.{Setting}
 use Rattle.micro_isa.specs.declared.program.Bundle.{Bundle}
-use Rattle.micro_isa.specs.declared.image.Image.{Image}
-use Rattle.micro_isa.specs.Formed.{IsFormedSetting, IsFormedBundle, IsFormedImage}
+use Rattle.micro_isa.specs.Formed.{IsFormedSetting, IsFormedBundle}
 use Rattle.world.specs.Opening.{opened_channel}
 use Rattle.semantics.specs.Core.{opening_core}
 use Rattle.semantics.specs.Events.{Config}
-use Rattle.semantics.specs.Machine.{Machine, machine_open}
 use Rattle.semantics.specs.Source.{Contexts, source_open}
 use Rattle.round_order.specs.Openings.{IsOpening}
 
@@ -18,10 +16,6 @@ opening_is s contexts bound formed = record {
   goes = refl;
   few = subst (λ n. n ≤ MOST_CHANNELS) (sym (length-map s.channels opened_channel)) formed.few;
 }
-
--- the opening of a formed image
-pub image_opening : (m : Image) (bound : ℕ) (before : Config Machine) → IsFormedImage m → before ≡ machine_open m bound → IsOpening before.core
-image_opening m bound before formed opens = subst IsOpening (sym (ap (λ x. x.core) opens)) (opening_is m.setting (length m.contexts) bound formed.setting)
 
 -- the opening of a formed bundle
 pub bundle_opening : (b : Bundle) (bound : ℕ) (before : Config Contexts) → IsFormedBundle b → before ≡ source_open b bound → IsOpening before.core

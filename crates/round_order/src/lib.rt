@@ -6,4 +6,4 @@ mod order;
 mod runs;
 
 pub use order::next_in_round;
-pub use runs::{EngineRun, SourceRounds, run_engine, run_source};
+pub use runs::{SourceRounds, run_source};
