@@ -74,7 +74,7 @@ fn told_of(alloc: Global, program: &Program, plan: &Plan) -> Result<Option<PlanF
 #[test]
 fn the_walk_is_valid(rt: HostRuntime) -> Result<(), Fail> {
     let plan = plan_with(rt.alloc(), (1, 2), 7, 7, ROWS[0])?;
-    assert_eq!(rt; told(rt.alloc(), &plan)?, None);
+    assert!(rt; told(rt.alloc(), &plan)? == None);
     Ok(())
 }
 
@@ -87,7 +87,7 @@ fn sizes_and_length_come_first(rt: HostRuntime) -> Result<(), Fail> {
     ];
     for (sizes, n, want) in &rows {
         let plan = plan_with(rt.alloc(), *sizes, *n, 0, (&[], None))?;
-        assert_eq!(rt; told(rt.alloc(), &plan)?, Some(*want));
+        assert!(rt; told(rt.alloc(), &plan)? == Some(*want));
     }
     Ok(())
 }
@@ -181,7 +181,7 @@ fn each_fault_of_a_row(rt: HostRuntime) -> Result<(), Fail> {
     ];
     for (at, row, want) in &rows {
         let plan = plan_with(rt.alloc(), (1, 2), 7, *at, *row)?;
-        assert_eq!(rt; told(rt.alloc(), &plan)?, Some(*want));
+        assert!(rt; told(rt.alloc(), &plan)? == Some(*want));
     }
     Ok(())
 }

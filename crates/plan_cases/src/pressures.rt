@@ -65,6 +65,41 @@ fn pressures_of_known_programs(rt: HostRuntime) -> Result<(), Fail> {
     Ok(())
 }
 
+/// Jumps that lead backwards from one part of a region to another: the last instruction is joined with the first.
+const BACKWARDS: &[u8] =
+    b"file 1\ncontext a\njmp last\nlow: li x, 1\nyield\nmid: jmp low\nlast: jmp mid\n";
+
+/// Regions that are entered by jumps alone, from in front and from behind.
+const SCRAMBLED: &[u8] =
+    b"file 1\ncontext a\njmp last\nwait: yield\njmp wait\nyield\nstop: halt\nlast: jmp stop\n";
+
+/// The region of each instruction of a text's first context.
+fn regions_in(alloc: Global, text: &[u8]) -> Result<List<u32>, Fail> {
+    let bundle = bundle_of(alloc, text)?;
+    let program = context_of(&bundle, 0)?;
+    let flow = Flow::of(alloc, program)?;
+    let regions = Regions::of(alloc, program, &flow)?;
+    let mut numbers = List::new(alloc);
+    for i in 0..program.code.len() {
+        numbers.push(regions.region_of(i as u32))?;
+    }
+    Ok(numbers)
+}
+
+#[test]
+fn regions_by_jumps(rt: HostRuntime) -> Result<(), Fail> {
+    let rows = [
+        (BACKWARDS, [0, 0, 0, 0, 0].as_slice()),
+        (SCRAMBLED, [0, 1, 1, 2, 0, 0].as_slice()),
+        (SHARED, [0, 0, 1, 1, 1, 2].as_slice()),
+    ];
+    for (text, wanted) in &rows {
+        let numbers = regions_in(rt.alloc(), text)?;
+        assert!(rt; numbers.as_slice() == *wanted);
+    }
+    Ok(())
+}
+
 /// The registers that live before instruction `at` of a text's first context and behind it, as sets of bits.
 fn live_at(alloc: Global, text: &[u8], at: u32) -> Result<(u128, u128), Fail> {
     let bundle = bundle_of(alloc, text)?;

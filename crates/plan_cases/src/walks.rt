@@ -3,7 +3,7 @@ ghost use Rattle.flow_graph.specs.Paths.{IsClosedCode};
 use crate::bundles::{SPLIT, bundle_of, context_of};
 use flow_graph::Flow;
 use liveness::Live;
-use micro_isa::Program;
+use micro_isa::{MOST_FILE, Program};
 use plan::{Plan, check_plan};
 use point_walk::walk;
 use pressure::pressures;
@@ -26,6 +26,18 @@ const FRAME: &[u8] =
 const HANDOFF: &[u8] =
     b"file 16\nmemory 4\ninput rx\nwords rx 0x4500 0x0054\ninner ring 2\noutput tx\ncontext receiver\nli left, 4\nli one, 1\nnext:\nrecv word, rx\nsend ring, word\nsub left, left, one\nbne left, zero, next\nhalt\ncontext transmitter\nli left, 4\nli one, 1\nli place, 2\nnext:\nrecv word, ring\nload seen, place\nadd seen, seen, one\nstore place, seen\nsend tx, word\nsub left, left, one\nbne left, zero, next\nhalt\n";
 
+const KEY: &[u8] =
+    b"file 3\nmemory 8\ninput rx\nwords rx 5\noutput tx\ncontext counter\n  li slot, 3\n  li count, 7\n  store slot, count\n  halt\ncontext classifier\n  recv key, rx\n  load rule, key\n  add rule, rule, key\n  send tx, rule\n  halt\n";
+
+const LOOSE: &[u8] =
+    b"memory 0x10 ,\nfile 04\noutput\ttx\ncontext probe\ntop:\nagain: li x 0xFF\n\tbeq x,x,again\n\tjmp top\n\thalt\n";
+
+const PORTS: &[u8] =
+    b"file 8\ninput rx port 0 4\noutput tx port 1\ncontext echo\n  li left, 6\n  li one, 1\n  next:\n  recv word, rx\n  add word, word, one\n  send tx, word\n  sub left, left, one\n  bne left, zero, next\n  halt\n";
+
+const WAITING: &[u8] =
+    b"file 4\ninner requests 1\ninner replies 1\ncontext client\n  recv word, replies\n  send requests, word\n  halt\ncontext server\n  recv word, requests\n  send replies, word\n  halt\n";
+
 /// The walk of a program at sizes so much above its pressures; `check_plan` must accept it.
 fn walk_of(alloc: Global, program: &Program, more: (u8, u8)) -> Result<Plan, Fail>
     requires { IsClosedCode program.now.code }
@@ -35,7 +47,7 @@ fn walk_of(alloc: Global, program: &Program, more: (u8, u8)) -> Result<Plan, Fai
     let least = pressures(program, &live);
     let p = least.private + u32::from(more.0);
     let r = least.all + u32::from(more.1);
-    if r < p || 128 < r {
+    if r < p || MOST_FILE < r {
         return Err("sizes that a plan can have".into());
     }
     let plan = walk(alloc, program, &live, p, r)?;
@@ -78,7 +90,7 @@ fn walks_of_known_programs(rt: HostRuntime) -> Result<(), Fail> {
     for (text, more, want) in &rows {
         let plan = walk_in(rt.alloc(), text, 0, *more)?;
         let told = shown(rt.alloc(), &plan)?;
-        assert_eq!(rt; told.as_str(), *want);
+        assert!(rt; told.as_str() == *want);
     }
     Ok(())
 }
@@ -91,10 +103,16 @@ fn examples_have_valid_walks(rt: HostRuntime) -> Result<(), Fail> {
         (FRAME, 0, 7),
         (HANDOFF, 0, 7),
         (HANDOFF, 1, 11),
+        (KEY, 0, 4),
+        (KEY, 1, 5),
+        (LOOSE, 0, 4),
+        (PORTS, 0, 8),
+        (WAITING, 0, 3),
+        (WAITING, 1, 3),
     ];
     for (text, c, length) in &rows {
         let plan = walk_in(rt.alloc(), text, *c, (0, 0))?;
-        assert_eq!(rt; plan.rows.len(), *length);
+        assert!(rt; plan.rows.len() == *length);
     }
     Ok(())
 }
