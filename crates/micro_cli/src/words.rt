@@ -1,6 +1,7 @@
 //! The task that the words of the command line ask for.
 
 ghost use Rattle.std.specs.Prelude.{◌≡◌, ◌≤◌, IfOk, IfSome, map, string_bytes, true, false};
+ghost use Rattle.micro_isa.specs.declared.limits.TheConstants.{MOST_STEPS};
 ghost use Rattle.commands.specs.Tells.{IsBounded, RunsBy, is_round};
 ghost use Rattle.micro_cli.specs.Words.{order_for, task_of, job_of, job_asked, IsBoundedJob, JobRunsBy};
 
@@ -28,7 +29,7 @@ pub(crate) fn job_asked(
 }
 
 fn job_of(meaning: &Meaning, threads: bool) -> Option<Job>
-    requires { meaning.now.steps ≤ 1048576 }
+    requires { meaning.now.steps ≤ MOST_STEPS }
     ensures job { result ≡ job_of threads meaning.now }
     ensures bounded { IfSome result IsBoundedJob }
     ensures rounds { threads ≡ false → IfSome result (JobRunsBy true) }
@@ -43,7 +44,7 @@ fn job_of(meaning: &Meaning, threads: bool) -> Option<Job>
 }
 
 fn task_of(meaning: &Meaning, threads: bool) -> Option<Task>
-    requires { meaning.now.steps ≤ 1048576 }
+    requires { meaning.now.steps ≤ MOST_STEPS }
     ensures task { result ≡ task_of threads meaning.now }
     ensures bounded { IfSome result IsBounded }
     ensures rounds { threads ≡ false → IfSome result (RunsBy true) }
