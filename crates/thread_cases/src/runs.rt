@@ -43,6 +43,11 @@ const FORWARDER_LINES: [&str; 6] = [
     "end finished",
 ];
 
+// Two wrong versions of `context_runner::run_threads` were tried by hand. One that has the workers work
+// one after another fails both tests: the first worker never sees the others. One that leaves all turns
+// to the moves in round order after the workers fails `four_contexts_meet`: nobody arrives, and no
+// segment is counted.
+
 #[test]
 fn two_contexts_meet(rt: HostRuntime) -> Result<(), Fail> {
     let gate = Meeting::of(0b11);
