@@ -1,12 +1,11 @@
 -- What a walk over the labels alone knows.
 use Rattle.std.proofs.Common.{◌≡◌, ◌≤◌, ◌<◌, ◌+◌, ℕ, true, List, [], ◌∷◌, Option, Some, None, length, fold, refl, ap, sym, ◌∙◌, arith}
-use Rattle.std.specs.Borrow.{Bor}
 use Rattle.micro_isa.specs.declared.operation.Operation.{Operation}
 use Rattle.micro_isa.specs.Table.{named, roles_of}
 use Rattle.asm_lines.specs.Cutting.{Words, TextLine}
-use Rattle.asm_lines.specs.Tables.{words_seen}
+use Rattle.asm_lines.specs.Heads.{has_some, head_of}
 use Rattle.asm_context.specs.Spelt.{Spelt, operands_in}
-use Rattle.asm_context.specs.Forms.{does, form_of, named_form, counted_form}
+use Rattle.asm_context.specs.Forms.{does, form_of, named_form, counted_form, body_of, labelled, label_in, label_at, does_at, does_after}
 use Rattle.asm_context.specs.Said.{Said, nothing, with_body, with_line, line_body, said_by, outline}
 use Rattle.asm_context.proofs.Steps.{count_le}
 
@@ -18,10 +17,21 @@ does_named : (o : Option Operation) (words : Words) → does (named_form o words
 does_named None words = refl
 does_named (Some o) words = does_counted o (operands_in (roles_of o) words)
 
--- a line with a word has an instruction
-pub does_seen : (words : List (Bor (List ℕ))) → 1 ≤ length words → does (form_of (words_seen words)) ≡ true
-does_seen [] some = absurd (omega arith)
-does_seen (w ∷ ws) some = does_named (named w.now) (words_seen ws)
+does_more : (words : Words) → does (form_of words) ≡ has_some words
+does_more [] = refl
+does_more (w ∷ ws) = does_named (named w) ws
+
+-- what the head of a line tells of the line
+pub label_head : (words : Words) → label_at (head_of words) ≡ (body_of words).label
+label_head [] = refl
+label_head (w ∷ ws) = elim (label_in w) as (λ l. l ≡ (labelled l w ws).label) [ None ↦ refl | Some name ↦ refl ]
+
+pub does_head : (words : Words) → does_at (head_of words) ≡ does (body_of words).form
+does_head [] = refl
+does_head (w ∷ ws) = elim (label_in w) as (λ l. does_after l (has_some ws) ≡ does (labelled l w ws).form) [
+  | None ↦ sym (does_named (named w) ws)
+  | Some name ↦ sym (does_more ws)
+]
 
 -- as far as a walk has come
 pub record IsOutlined (all : Said) (left whole : List TextLine) : Type 0 where

@@ -6,6 +6,7 @@ use Rattle.micro_isa.specs.declared.operands.Extra.TheVariants.{Nothing}
 use Rattle.micro_isa.specs.Columns as columns
 use Rattle.micro_isa.specs.Table.{named, roles_of}
 use Rattle.asm_lines.specs.Cutting.{Words}
+use Rattle.asm_lines.specs.Heads.{WordHead}
 use Rattle.asm_context.specs.Spelt.{Spelt, operands_in, number_of, received, sent}
 
 -- the form of a line behind its label, with its operands as words that are not judged yet
@@ -58,6 +59,27 @@ is_miscounted _ = false
 abbrev pub does : Form → Bool
 does Blank = false
 does _ = true
+
+-- the label of a line with this first word, if it has one
+abbrev pub label_first : Option (List ℕ) → Option (List ℕ)
+label_first None = None
+label_first (Some word) = label_in word
+
+abbrev pub does_after : Option (List ℕ) → Bool → Bool
+does_after None more = true
+does_after (Some name) more = more
+
+-- whether a line with this first word, and with more words or none, has a word besides a label
+abbrev pub does_first : Option (List ℕ) → Bool → Bool
+does_first None more = false
+does_first (Some word) more = does_after (label_in word) more
+
+-- the label of a line with this head, and whether it has an instruction
+abbrev pub label_at : WordHead → Option (List ℕ)
+label_at h = label_first h.first
+
+abbrev pub does_at : WordHead → Bool
+does_at h = does_first h.first h.more
 
 -- what stands behind such a line is not reached in order
 abbrev pub ends : Form → Bool

@@ -1,9 +1,12 @@
 ghost use Rattle.std.specs.Prelude.{◌≡◌, Some, option_map};
-ghost use Rattle.asm_context.specs.Forms.{named_form, form_of, label_in, body_of, does, ends, extra_in, goes_to, receives_from, sends_to};
+ghost use Rattle.asm_context.specs.Forms.{named_form, form_of, label_in, body_of, label_at, does_at, does, ends, extra_in, goes_to, receives_from, sends_to};
+ghost use Rattle.asm_context.specs.Said.{line_body};
 ghost use Rattle.asm_context.specs.Views.{seen_extra, seen_form, seen_body};
+ghost use Rattle.asm_lines.specs.Heads.{seen_head};
 ghost use Rattle.asm_lines.specs.Tables.{words_seen};
 
 use crate::spelt::{Spelt, operands_in};
+use asm_lines::{Head, Row};
 use micro_isa::{Extra, Operation, operation_named, roles_of};
 
 /// The form of a line behind its label, with its operands as words that are not judged yet.
@@ -25,6 +28,7 @@ pub struct Body<'a> {
     pub form: Form<'a>,
 }
 
+#[inline(always)]
 fn form_of<'a>(words: &[&'a [u8]]) -> Form<'a>
     ensures { seen_form result ≡ form_of (words_seen words.now) }
 {
@@ -34,6 +38,7 @@ fn form_of<'a>(words: &[&'a [u8]]) -> Form<'a>
     }
 }
 
+#[inline(always)]
 fn named_form<'a>(operation: Option<Operation>, words: &[&'a [u8]]) -> Form<'a>
     ensures { seen_form result ≡ named_form operation (words_seen words.now) }
 {
@@ -43,6 +48,7 @@ fn named_form<'a>(operation: Option<Operation>, words: &[&'a [u8]]) -> Form<'a>
     }
 }
 
+#[inline(always)]
 fn counted_form<'a>(operation: Operation, words: &[&'a [u8]]) -> Form<'a>
     ensures { seen_form result ≡ named_form (Some operation) (words_seen words.now) }
 {
@@ -144,35 +150,32 @@ pub fn sends_to<'a>(form: Form<'a>) -> Option<&'a [u8]>
     }
 }
 
-/// The label of a line of these words.
-pub fn label_of<'a>(words: &[&'a [u8]]) -> Option<&'a [u8]>
-    ensures { option_map (λ n. n.now) result ≡ (body_of (words_seen words.now)).label }
+/// The label of a line with this head.
+pub fn label_at<'a>(head: Head<'a>) -> Option<&'a [u8]>
+    ensures { option_map (λ n. n.now) result ≡ label_at (seen_head head.entry) }
 {
-    match words {
-        [] => None,
-        [first, ..] => label_in(first),
+    match head.first {
+        None => None,
+        Some(first) => label_in(first),
     }
 }
 
-#[tactic(auto, using(crate::proofs::Outlining::does_seen))]
-fn has_word(words: &[&[u8]]) -> bool
-    ensures { result ≡ does (form_of (words_seen words.now)) }
+/// Whether a line with this head has an instruction, be it a faulty one.
+pub fn does_at(head: Head) -> bool
+    ensures { result ≡ does_at (seen_head head.entry) }
 {
-    match words {
-        [] => false,
-        [_, ..] => true,
-    }
-}
-
-/// Whether a line of these words has an instruction, be it a faulty one.
-pub fn has_instruction(words: &[&[u8]]) -> bool
-    ensures { result ≡ does (body_of (words_seen words.now)).form }
-{
-    match words {
-        [] => false,
-        [first, rest @ ..] => match label_in(first) {
-            None => has_word(words),
-            Some(_) => has_word(rest),
+    match head.first {
+        None => false,
+        Some(first) => match label_in(first) {
+            None => true,
+            Some(_) => head.more,
         },
     }
+}
+
+/// Whether a line has an instruction, be it a faulty one.
+pub fn has_instruction(row: &Row) -> bool
+    ensures { result ≡ does (line_body row.now).form }
+{
+    does_at(row.head())
 }

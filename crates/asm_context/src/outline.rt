@@ -1,13 +1,13 @@
-ghost use Rattle.std.specs.Prelude.{◌≡◌, ◌+◌, ◌<◌, OnOk, IfOk, length, option_map};
-ghost use Rattle.asm_lines.specs.Tables.{words_seen};
+ghost use Rattle.std.specs.Prelude.{◌≡◌, ◌+◌, ◌<◌, OnOk, IfOk, length};
+ghost use Rattle.asm_lines.specs.Heads.{seen_head};
 ghost use Rattle.asm_lines.specs.Sections.{ahead};
-ghost use Rattle.asm_context.specs.Forms.{does, body_of};
-ghost use Rattle.asm_context.specs.Said.{nothing, count, with_body, outline, said_by};
+ghost use Rattle.asm_context.specs.Forms.{does_at};
+ghost use Rattle.asm_context.specs.Said.{nothing, count, with_body, line_body, outline, said_by};
 ghost use Rattle.asm_context.specs.Views.{seen_outline};
 
-use crate::form::{has_instruction, label_of};
+use crate::form::{does_at, label_at};
 use crate::said::note_label;
-use asm_lines::Lines;
+use asm_lines::{Head, Lines, Row};
 use indexmap::IndexSet;
 use micro_isa::NoMemory;
 use std::alloc::Global;
@@ -31,23 +31,20 @@ fn no_outline<'a>(alloc: Global) -> Outline<'a>
     }
 }
 
-fn counted(done: u32, words: &[&[u8]]) -> u32
+fn counted(done: u32, head: Head) -> u32
     requires { done < 4294967295 }
-    ensures { result ≡ done + count (does (body_of (words_seen words.now)).form) }
+    ensures { result ≡ done + count (does_at (seen_head head.entry)) }
 {
-    if has_instruction(words) {
-        done + 1
-    } else {
-        done
-    }
+    if does_at(head) { done + 1 } else { done }
 }
 
-fn note_line<'a>(all: &mut Outline<'a>, words: &[&'a [u8]]) -> Result<(), NoMemory>
+fn note_line<'a>(all: &mut Outline<'a>, row: &Row<'a>) -> Result<(), NoMemory>
     requires { all.old.done < 4294967295 }
-    ensures { OnOk result (seen_outline all.new ≡ outline (with_body (seen_outline all.old) (body_of (words_seen words.now)))) }
+    ensures { OnOk result (seen_outline all.new ≡ outline (with_body (seen_outline all.old) (line_body row.now))) }
 {
-    note_label(&mut all.labels, &mut all.targets, all.done, label_of(words))?;
-    all.done = counted(all.done, words);
+    let head = row.head();
+    note_label(&mut all.labels, &mut all.targets, all.done, label_at(head))?;
+    all.done = counted(all.done, head);
     Ok(())
 }
 
@@ -58,8 +55,8 @@ pub fn outline_of<'a>(alloc: Global, lines: &Lines<'a>) -> Result<Outline<'a>, N
 {
     let mut all = no_outline(alloc);
     let mut left = lines.again();
-    'lines: while let Some(row) = left.next_inside(alloc)? {
-        note_line(&mut all, row.words())?;
+    'lines: while let Some(row) = left.next_inside() {
+        note_line(&mut all, &row)?;
     }
     Ok(all)
 }

@@ -23,6 +23,7 @@ use std::alloc::Global;
 
 /// One line of a context.
 fn read_line<'a>(
+    alloc: Global,
     names: &IndexSet<&'a [u8]>,
     kinds: &[Channel],
     now: &mut Said<'a>,
@@ -37,7 +38,8 @@ fn read_line<'a>(
     ensures code { OnOk result (code.new ≡ code.old ++ line_code (words_seen names.now.keys) (seen_said now.old) (seen_outline all.now) row.now) }
     ensures cause { IfErr result (λ why. Causes why (at_or row.now.number (line_fault (channels (words_seen names.now.keys) kinds.now) (seen_said now.old) (seen_outline all.now) row.now) None)) }
 {
-    let body = body_of(row.words());
+    let words = row.words(alloc)?;
+    let body = body_of(words.as_slice());
     let twice = has_name(&now.labels, body.label);
     let places = note(now, body)?;
     if let Some(kind) = body_fault(names, kinds, twice, now, all, row.fair(), body) {
@@ -70,8 +72,8 @@ fn read_lines<'a>(
     ensures cause { IfErr result (λ why. Causes why (lines_fault (channels (words_seen names.now.keys) kinds.now) (ahead lines.old.lines))) }
 {
     let mut code = List::new(alloc);
-    'lines: while let Some(row) = lines.next_inside(alloc)? {
-        read_line(names, kinds, now, all, &mut code, &row)?;
+    'lines: while let Some(row) = lines.next_inside() {
+        read_line(alloc, names, kinds, now, all, &mut code, &row)?;
     }
     Ok(code)
 }

@@ -50,6 +50,7 @@ pub fn nothing<'a>(alloc: Global) -> Said<'a>
 }
 
 /// Notes a label, which names the instruction of this number.
+#[inline(always)]
 pub fn note_label<'a>(
     labels: &mut IndexSet<&'a [u8]>,
     targets: &mut Vec<u32>,
@@ -72,6 +73,7 @@ pub fn note_label<'a>(
     Ok(())
 }
 
+#[inline(always)]
 fn note_registers<'a>(
     registers: &mut IndexSet<&'a [u8]>,
     form: Form<'a>,
@@ -80,14 +82,12 @@ fn note_registers<'a>(
     ensures places { IfOk result (λ p. p ≡ places_in (words_seen registers.new.keys) (seen_form form.entry)) }
 {
     match form {
-        Form::Instruction { operands, .. } => match note_operands(registers, operands) {
-            Ok(places) => Ok(places),
-            Err(NoMemory) => Err(NoMemory),
-        },
+        Form::Instruction { operands, .. } => note_operands(registers, operands),
         _ => Ok(NOWHERE),
     }
 }
 
+#[inline(always)]
 fn note_operands<'a>(
     names: &mut IndexSet<&'a [u8]>,
     operands: Spelt<'a>,
@@ -101,6 +101,7 @@ fn note_operands<'a>(
     Ok(Places { to, a, b })
 }
 
+#[inline(always)]
 fn note_name<'a>(
     names: &mut IndexSet<&'a [u8]>,
     name: Option<&'a [u8]>,
@@ -108,13 +109,11 @@ fn note_name<'a>(
     ensures names { OnOk result (words_seen names.new.keys ≡ fold declare (words_seen names.old.keys) (one (option_map (λ n. n.now) name.entry))) }
     ensures place { IfOk result (λ p. p ≡ place_in (words_seen names.new.keys) (option_map (λ n. n.now) name.entry)) }
 {
-    match name {
-        Some(name) => match declare(names, name) {
-            Ok((place, _)) => Ok(Some(place)),
-            Err(NoMemory) => Err(NoMemory),
-        },
-        None => Ok(None),
-    }
+    let Some(name) = name else {
+        return Ok(None);
+    };
+    let (place, _) = declare(names, name)?;
+    Ok(Some(place))
 }
 
 fn counted(done: u32, form: Form) -> u32

@@ -1,3 +1,4 @@
+pub mod Blanks
 pub mod Filling
 pub mod Ports
 pub mod Reading

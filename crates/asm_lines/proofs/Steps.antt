@@ -1,7 +1,7 @@
 -- One byte further in a text that is cut.
-use Rattle.std.proofs.Common.{◌≡◌, ◌++◌, ◌≤◌, ◌<◌, ℕ, zero, suc, ◌+◌, ◌-◌, ◌==◌, Bool, true, false, List, [], ◌∷◌, length, take, drop, get_or, refl, sym, ap, ◌∙◌, arith, add-one, append_assoc, if◌then◌else◌}
+use Rattle.std.proofs.Common.{◌≡◌, ◌++◌, ◌≤◌, ◌<◌, ℕ, suc, ◌+◌, ◌-◌, ◌==◌, Bool, true, false, List, [], ◌∷◌, length, take, drop, get_or, refl, sym, ap, ◌∙◌, arith, add-one, if◌then◌else◌}
 use Rattle.std.proofs.Math.Seq.{take-suc, drop-cons}
-use Rattle.std.proofs.lemmas.List.{length-append, length-drop, get_or-drop}
+use Rattle.std.proofs.lemmas.List.{length-drop, get_or-drop}
 use Rattle.asm_lines.specs.Cutting.{words_from, lines_from, told, is_gap, piece}
 
 more : (xs : List ℕ) (s i : ℕ) → s ≤ i → i < length xs → take (i + 1 - s) (drop s xs) ≡ take (i - s) (drop s xs) ++ get_or xs i 0 ∷ []
@@ -14,10 +14,6 @@ more xs s i le lt =
 
 next : (xs : List ℕ) (i : ℕ) → i < length xs → drop i xs ≡ get_or xs i 0 ∷ drop (i + 1) xs
 next xs i lt = rw (add-one i) (drop-cons xs i 0 lt)
-
-none_left : (xs : List ℕ) (n i : ℕ) → n ≡ i + 1 - (i + 1) → take n xs ≡ []
-none_left xs zero i e = refl
-none_left xs (suc n) i e = absurd (omega arith)
 
 words_cons : (sofar : List ℕ) (c : ℕ) (cs : List ℕ) (b : Bool) → is_gap c ≡ b → words_from sofar (c ∷ cs) ≡ (if b then piece sofar ++ words_from [] cs else words_from (sofar ++ c ∷ []) cs)
 words_cons sofar c cs b e = ap (λ b. if b then piece sofar ++ words_from [] cs else words_from (sofar ++ c ∷ []) cs) e
@@ -33,16 +29,6 @@ words_on xs s i le lt plain e =
     ap (words_from (take (i - s) (drop s xs))) (told_on xs i false lt plain)
     ∙ words_cons (take (i - s) (drop s xs)) (get_or xs i 0) (told (drop (i + 1) xs)) false e
     ∙ ap (λ t. words_from t (told (drop (i + 1) xs))) (sym (more xs s i le lt))
-
-pub words_cut : (xs : List ℕ) (s i : ℕ) → i < length xs → (get_or xs i 0 == 35) ≡ false → is_gap (get_or xs i 0) ≡ true → words_from (take (i - s) (drop s xs)) (told (drop i xs)) ≡ piece (take (i - s) (drop s xs)) ++ words_from (take (i + 1 - (i + 1)) (drop (i + 1) xs)) (told (drop (i + 1) xs))
-words_cut xs s i lt plain e =
-    ap (words_from (take (i - s) (drop s xs))) (told_on xs i false lt plain)
-    ∙ words_cons (take (i - s) (drop s xs)) (get_or xs i 0) (told (drop (i + 1) xs)) true e
-    ∙ ap (λ t. piece (take (i - s) (drop s xs)) ++ words_from t (told (drop (i + 1) xs))) (sym (none_left (drop (i + 1) xs) _ i refl))
-
--- a comment ends the last word
-pub words_end : (xs : List ℕ) (s i : ℕ) → i < length xs → (get_or xs i 0 == 35) ≡ true → words_from (take (i - s) (drop s xs)) (told (drop i xs)) ≡ piece (take (i - s) (drop s xs))
-words_end xs s i lt e = ap (words_from (take (i - s) (drop s xs))) (told_on xs i true lt e)
 
 so_far : (xs : List ℕ) (i : ℕ) → i < length xs → take (i + 1) xs ≡ take i xs ++ get_or xs i 0 ∷ []
 so_far xs i lt = rw (add-one i) (take-suc xs i 0 lt)

@@ -1,31 +1,70 @@
-ghost use Rattle.std.specs.Prelude.{◌≡◌, ◌++◌, map, IfOk, OnOk, []};
+ghost use Rattle.std.specs.Prelude.{◌≡◌, ◌++◌, ◌∷◌, [], map, IfOk, OnOk, MatchOption};
 ghost use Rattle.std.specs.List.{list_all};
 ghost use Rattle.asm_lines.specs.Cutting.{is_gap, is_allowed, told, words_from, piece, line_of};
+ghost use Rattle.asm_lines.specs.Heads.{has_some, head_of, seen_head};
+ghost use Rattle.asm_lines.specs.Sections.{starts};
+ghost use Rattle.asm_lines.specs.Tables.{words_seen};
 
 use micro_isa::NoMemory;
 use smallvec::SmallVec;
 use std::alloc::Global;
 use std::marker::Model;
 
-/// A line of a text: its number, counted from 1, its bytes, and its words up to a comment.
+/// A line of a text: its number, counted from 1, and its bytes. Its words are cut as they are asked for.
 #[derive(Drop)]
 pub struct Row<'a> {
     number: u32,
     line: &'a [u8],
-    words: SmallVec<&'a [u8], 4, Global>,
 }
 
 impl<'a> Model for Row<'a> {
-    ghost use Rattle.std.specs.Prelude.{map};
-    ghost use Rattle.std.specs.List.{list_all};
-    ghost use Rattle.asm_lines.specs.Cutting.{TextLine, is_allowed};
+    ghost use Rattle.asm_lines.specs.Cutting.{TextLine, line_of};
 
     ghost Value = { TextLine };
 
-    ghost view = { λ r. record { number = r.number; fair = list_all is_allowed r.line.now; words = map (λ w. w.now) r.words.items } };
+    ghost view = { λ r. line_of r.number r.line.now };
+}
+
+/// The words of a line.
+#[derive(Drop)]
+pub struct LineWords<'a> {
+    words: SmallVec<&'a [u8], 4, Global>,
+}
+
+impl<'a> Model for LineWords<'a> {
+    ghost use Rattle.asm_lines.specs.Cutting.{Words};
+    ghost use Rattle.asm_lines.specs.Tables.{words_seen};
+
+    ghost Value = { Words };
+
+    ghost view = { λ w. words_seen w.words.items };
+}
+
+impl<'a> LineWords<'a> {
+    #[inline(always)]
+    pub fn as_slice(&self) -> &[&'a [u8]]
+        ensures { words_seen result.now ≡ self.now }
+    {
+        self.words.as_slice()
+    }
+}
+
+/// The first word of a line, and whether it has another.
+#[derive(Clone, Copy)]
+pub struct Head<'a> {
+    pub first: Option<&'a [u8]>,
+    pub more: bool,
 }
 
 impl<'a> Row<'a> {
+    /// The line of these bytes.
+    #[inline(always)]
+    pub(crate) fn of(number: u32, line: &'a [u8]) -> Row<'a>
+        ensures { result ≡ line_of number line.now }
+    {
+        Row { number, line }
+    }
+
     /// The number of the line, counted from 1.
     #[inline(always)]
     pub fn number(&self) -> u32
@@ -42,12 +81,41 @@ impl<'a> Row<'a> {
         are_allowed(self.line)
     }
 
-    /// The words of the line.
+    /// The words of the line up to its comment.
     #[inline(always)]
-    pub fn words(&self) -> &[&'a [u8]]
-        ensures { map (λ w. w.now) result.now ≡ self.now.words }
+    pub fn words(&self, alloc: Global) -> Result<LineWords<'a>, NoMemory>
+        ensures { IfOk result (λ words. words ≡ self.now.words) }
     {
-        self.words.as_slice()
+        let words = words_of(alloc, self.line)?;
+        Ok(LineWords { words })
+    }
+
+    /// The first word of the line, and whether it has another.
+    #[inline(always)]
+    pub fn head(&self) -> Head<'a>
+        ensures { seen_head result ≡ head_of self.now.words }
+    {
+        match split_word(self.line) {
+            None => Head {
+                first: None,
+                more: false,
+            },
+            Some((first, rest)) => Head {
+                first: Some(first),
+                more: has_word(rest),
+            },
+        }
+    }
+
+    /// Whether the line begins a context.
+    #[inline(always)]
+    pub fn starts(&self) -> bool
+        ensures { result ≡ starts self.now.words }
+    {
+        match split_word(self.line) {
+            None => false,
+            Some((first, _)) => first == b"context".as_slice(),
+        }
     }
 }
 
@@ -65,61 +133,67 @@ fn is_allowed(c: u8) -> bool
     c == b'\t' || (32 <= c && c <= 126)
 }
 
+/// All bytes are looked at, whatever the first ones are: the walk has no exit that a compiler must keep.
+#[inline(always)]
 fn are_allowed(line: &[u8]) -> bool
     ensures { result ≡ list_all is_allowed line.now }
 {
+    let mut fair = true;
     for c in line {
-        if !is_allowed(*c) {
-            return false;
-        }
+        fair &= is_allowed(*c);
     }
-    true
+    fair
 }
 
-/// Appends a piece that is not empty.
-fn push_piece<'a>(words: &mut SmallVec<&'a [u8], 4, Global>, word: &'a [u8]) -> Result<(), NoMemory>
-    ensures { OnOk result (map (λ w. w.now) words.new.items ≡ map (λ w. w.now) words.old.items ++ piece word.now) }
+/// The first word of a line, and what follows it.
+#[inline(always)]
+fn split_word<'a>(line: &'a [u8]) -> Option<(&'a [u8], &'a [u8])>
+    ensures { MatchOption result (words_from [] (told line.now) ≡ []) (λ r. words_from [] (told line.now) ≡ r.0.now ∷ words_from [] (told r.1.now)) }
 {
-    if word.is_empty() {
-        return Ok(());
+    let mut start = 0;
+    for i in 0..line.len() {
+        if line[i] == b'#' {
+            return if start < i {
+                Some((&line[start..i], &line[i..]))
+            } else {
+                None
+            };
+        }
+        if !is_gap(line[i]) {
+            continue;
+        }
+        if start < i {
+            return Some((&line[start..i], &line[i + 1..]));
+        }
+        start = i + 1;
     }
-    match words.push(word) {
-        Ok(()) => Ok(()),
-        Err(_) => Err(NoMemory),
+    if start < line.len() {
+        Some((&line[start..], &line[line.len()..]))
+    } else {
+        None
     }
+}
+
+#[inline(always)]
+fn has_word(line: &[u8]) -> bool
+    ensures { result ≡ has_some (words_from [] (told line.now)) }
+{
+    split_word(line).is_some()
 }
 
 /// The words of a line up to its comment.
 #[inline(always)]
 fn words_of<'a>(alloc: Global, line: &'a [u8]) -> Result<SmallVec<&'a [u8], 4, Global>, NoMemory>
-    ensures { IfOk result (λ v. map (λ w. w.now) v.items ≡ words_from [] (told line.now)) }
+    ensures { IfOk result (λ v. words_seen v.items ≡ words_from [] (told line.now)) }
 {
     let mut words = SmallVec::new(alloc);
-    let mut start = 0;
-    for i in 0..line.len() {
-        if line[i] == b'#' {
-            push_piece(&mut words, &line[start..i])?;
-            return Ok(words);
+    let mut rest = line;
+    'words: while let Some((word, behind)) = split_word(rest) {
+        match words.push(word) {
+            Ok(()) => {}
+            Err(_) => return Err(NoMemory),
         }
-        if !is_gap(line[i]) {
-            continue;
-        }
-        push_piece(&mut words, &line[start..i])?;
-        start = i + 1;
+        rest = behind;
     }
-    push_piece(&mut words, &line[start..])?;
     Ok(words)
-}
-
-/// The line of these bytes.
-#[inline(always)]
-pub fn row_of<'a>(alloc: Global, number: u32, line: &'a [u8]) -> Result<Row<'a>, NoMemory>
-    ensures { IfOk result (λ row. row ≡ line_of number line.now) }
-{
-    let words = words_of(alloc, line)?;
-    Ok(Row {
-        number,
-        line,
-        words,
-    })
 }

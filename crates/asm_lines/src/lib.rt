@@ -8,9 +8,9 @@ mod lines;
 mod number;
 mod table;
 
-pub use cutting::Row;
+pub use cutting::{Head, LineWords, Row};
 pub use fault::{BundleFault, BundleKind, kind_text};
-pub use lines::{Lines, starts};
+pub use lines::Lines;
 pub use number::{number_or, word_number};
 pub use table::{
     declare, find, has_name, is_misnamed, is_stray, knows, name_of, names_of, place_of,

@@ -1,11 +1,8 @@
-ghost use Rattle.std.specs.Prelude.{◌≡◌, ◌<◌, ◌≤◌, ◌∷◌, [], length, IfOk, MatchOption};
+ghost use Rattle.std.specs.Prelude.{◌≡◌, ◌<◌, ◌≤◌, ◌∷◌, [], length, MatchOption};
 ghost use Rattle.asm_lines.specs.Cutting.{lines_from, text_lines};
-ghost use Rattle.asm_lines.specs.Sections.{starts, IsDone, Takes, IsAtEnd, TakesInside};
-ghost use Rattle.asm_lines.specs.Tables.{words_seen};
+ghost use Rattle.asm_lines.specs.Sections.{IsDone, Takes, IsAtEnd, TakesInside};
 
-use crate::cutting::{Row, row_of};
-use micro_isa::NoMemory;
-use std::alloc::Global;
+use crate::cutting::Row;
 use std::marker::Model;
 
 /// The lines of a text that are still to be read. Each is cut as it is asked for, and none is kept.
@@ -62,33 +59,33 @@ impl<'a> Lines<'a> {
 
     /// The next line.
     #[inline(always)]
-    pub fn next(&mut self, alloc: Global) -> Result<Option<Row<'a>>, NoMemory>
-        ensures { IfOk result (λ row. MatchOption row (IsDone self.old self.new) (λ row. Takes self.old row self.new)) }
+    pub fn next(&mut self) -> Option<Row<'a>>
+        ensures { MatchOption result (IsDone self.old self.new) (λ row. Takes self.old row self.new) }
     {
         if self.rest.is_empty() {
-            return Ok(None);
+            return None;
         }
         let (line, rest) = first_line(self.rest);
-        let row = row_of(alloc, self.number, line)?;
+        let row = Row::of(self.number, line);
         self.rest = rest;
         self.number += 1;
-        Ok(Some(row))
+        Some(row)
     }
 
     /// The next line, where it begins no context.
     #[inline(always)]
-    pub fn next_inside(&mut self, alloc: Global) -> Result<Option<Row<'a>>, NoMemory>
-        ensures { IfOk result (λ row. MatchOption row (IsAtEnd self.old self.new) (λ row. TakesInside self.old row self.new)) }
+    pub fn next_inside(&mut self) -> Option<Row<'a>>
+        ensures { MatchOption result (IsAtEnd self.old self.new) (λ row. TakesInside self.old row self.new) }
     {
         let mut after = self.again();
-        let Some(row) = after.next(alloc)? else {
-            return Ok(None);
+        let Some(row) = after.next() else {
+            return None;
         };
-        if starts(row.words()) {
-            return Ok(None);
+        if row.starts() {
+            return None;
         }
         *self = after;
-        Ok(Some(row))
+        Some(row)
     }
 }
 
@@ -105,15 +102,4 @@ fn first_line<'a>(text: &'a [u8]) -> (&'a [u8], &'a [u8])
         }
     }
     (text, &text[text.len()..])
-}
-
-/// Whether a line of these words begins a context.
-#[inline(always)]
-pub fn starts(words: &[&[u8]]) -> bool
-    ensures { result ≡ starts (words_seen words.now) }
-{
-    match words {
-        [] => false,
-        [first, ..] => *first == b"context".as_slice(),
-    }
 }

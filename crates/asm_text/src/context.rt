@@ -10,7 +10,7 @@ use asm_context::{has_instruction, read_context};
 use asm_header::Header;
 use asm_lines::{BundleFault, BundleKind, Lines, Row, declare, knows};
 use indexmap::IndexSet;
-use micro_isa::{List, MOST_CONTEXTS, NoMemory, Program, is_name};
+use micro_isa::{List, MOST_CONTEXTS, Program, is_name};
 use std::alloc::Global;
 
 /// The programs of all contexts, or the first fault in them.
@@ -29,7 +29,7 @@ pub fn read_contexts<'a>(
 {
     let mut names = IndexSet::new(alloc);
     let mut all = List::new(alloc);
-    'contexts: while let Some(row) = lines.next(alloc)? {
+    'contexts: while let Some(row) = lines.next() {
         let program = read_one(alloc, header, &mut names, &row, lines)?;
         match all.push(program) {
             Ok(()) => {}
@@ -55,15 +55,15 @@ fn read_one<'a>(
     ensures past { OnOk result (IsPast lines.old lines.new) }
     ensures cause { IfErr result (λ why. Causes why (context_fault (seen_header header.now) (words_seen names.old.keys) row.now (ahead lines.old.lines))) }
 {
-    if let Some(kind) = start_fault(alloc, header, names, row, lines)? {
+    let words = row.words(alloc)?;
+    let name = name_in(words.as_slice());
+    if let Some(kind) = start_fault(header, names, row, name, lines) {
         return Err(BundleFault::At {
             line: row.number(),
             kind,
         });
     }
-    let Some(name) = name_in(row.words()) else {
-        unreachable!()
-    };
+    let Some(name) = name else { unreachable!() };
     declare(names, name)?;
     read_context(
         alloc,
@@ -74,38 +74,39 @@ fn read_one<'a>(
     )
 }
 
-/// The first kind of fault that a context line has, whose other lines come next.
+/// The first kind of fault that a context line has, which names the context so, and whose other lines come next.
 fn start_fault<'a>(
-    alloc: Global,
     header: &Header<'a>,
     names: &IndexSet<&'a [u8]>,
     row: &Row<'a>,
+    name: Option<&'a [u8]>,
     lines: &Lines<'a>,
-) -> Result<Option<BundleKind>, NoMemory>
-    ensures { IfOk result (λ found. found ≡ start_fault (seen_header header.now) (words_seen names.now.keys) row.now (ahead lines.now.lines)) }
+) -> Option<BundleKind>
+    requires { option_map (λ n. n.now) name ≡ name_in row.now.words }
+    ensures { result ≡ start_fault (seen_header header.now) (words_seen names.now.keys) row.now (ahead lines.now.lines) }
 {
     if !row.fair() {
-        return Ok(Some(BundleKind::Byte));
+        return Some(BundleKind::Byte);
     }
-    let Some(name) = name_in(row.words()) else {
-        return Ok(Some(BundleKind::Operands));
+    let Some(name) = name else {
+        return Some(BundleKind::Operands);
     };
     if !is_name(name) {
-        return Ok(Some(BundleKind::Name));
+        return Some(BundleKind::Name);
     }
     if MOST_CONTEXTS <= names.len() {
-        return Ok(Some(BundleKind::Limit));
+        return Some(BundleKind::Limit);
     }
     if knows(names, name) {
-        return Ok(Some(BundleKind::Repeated));
+        return Some(BundleKind::Repeated);
     }
     if header.file.is_none() && names.len() == 0 {
-        return Ok(Some(BundleKind::Missing));
+        return Some(BundleKind::Missing);
     }
-    if !has_instruction_line(alloc, lines)? {
-        return Ok(Some(BundleKind::Empty));
+    if !has_instruction_line(lines) {
+        return Some(BundleKind::Empty);
     }
-    Ok(None)
+    None
 }
 
 fn name_in<'a>(words: &[&'a [u8]]) -> Option<&'a [u8]>
@@ -118,14 +119,14 @@ fn name_in<'a>(words: &[&'a [u8]]) -> Option<&'a [u8]>
 }
 
 /// Whether an instruction line stands before the next context line.
-fn has_instruction_line(alloc: Global, lines: &Lines) -> Result<bool, NoMemory>
-    ensures { IfOk result (λ has. has ≡ has_instruction (ahead lines.now.lines)) }
+fn has_instruction_line(lines: &Lines) -> bool
+    ensures { result ≡ has_instruction (ahead lines.now.lines) }
 {
     let mut left = lines.again();
-    'lines: while let Some(row) = left.next_inside(alloc)? {
-        if has_instruction(row.words()) {
-            return Ok(true);
+    'lines: while let Some(row) = left.next_inside() {
+        if has_instruction(&row) {
+            return true;
         }
     }
-    Ok(false)
+    false
 }

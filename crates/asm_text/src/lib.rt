@@ -18,6 +18,3 @@ mod context;
 mod reader;
 
 pub use reader::read_bundle;
-
-#[cfg(test)]
-mod tests;

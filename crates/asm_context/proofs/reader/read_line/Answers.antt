@@ -26,7 +26,7 @@ returns-clause-code c =
     let b = seen_body c.body_of-body.result in
     let places = c.in_ok-places.places in
     let rs = words_seen c.note.new.said.registers.keys in
-    let is : b ≡ line_body row = c.body_of-body.ensures ∙ ap body_of c.words.ensures in
+    let is : b ≡ line_body row = c.body_of-body.ensures ∙ ap body_of (c.as_slice.ensures ∙ c.in_ok-words.ensures) in
     let registers : rs ≡ (with_line old row).registers = ap (λ (s : Said). s.registers) c.in_ok-places.ensures.said ∙ ap (λ (b : Body). (with_body old b).registers) is in
     c.in_ok-push_code.ensures
     ∙ ap (λ n. code ++ on_line n (instr_at places chs all b.form)) c.number-2.ensures

@@ -5,4 +5,4 @@ use Rattle.asm_header.proofs.reader.read_line.Goals as goal
 
 pub note-requires-clause-port : goal.note-requires-clause-port
 note-requires-clause-port c =
-    port_fits (seen_header c.args.header.now) c.fair.result (seen_form c.header_form-form.result) (sym c.form_fault.ensures ∙ c.in_default.is)
+    port_fits (seen_header c.args.header.now) c.fair-2.result (seen_form c.header_form-form.result) (sym c.form_fault.ensures ∙ c.in_default.is)

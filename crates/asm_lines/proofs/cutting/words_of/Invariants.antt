@@ -1,8 +1,10 @@
-use Rattle.std.proofs.Common.{◌≡◌, ◌≤◌, ◌-◌, ◌++◌, [], map, take, drop}
+use Rattle.std.proofs.Common.{◌≡◌, ◌++◌, [], length}
 use Rattle.asm_lines.specs.Cutting.{words_from, told}
+use Rattle.asm_lines.specs.Tables.{words_seen}
 use Rattle.asm_lines.proofs.cutting.words_of.Given as goal
 
-abbrev pub invariant-loop-i : goal.invariant-loop-i
-invariant-loop-i l =
-    (l.start ≤ l.i)
-    × (map (λ w. w.now) l.words.items ++ words_from (take (l.i - l.start) (drop l.start l.line)) (told (drop l.i l.line)) ≡ words_from [] (told l.line))
+abbrev pub invariant-words : goal.invariant-words
+invariant-words l = words_seen l.words.items ++ words_from [] (told l.rest) ≡ words_from [] (told l.line)
+
+abbrev pub decreases-words : goal.decreases-words
+decreases-words l = length (words_from [] (told l.rest))

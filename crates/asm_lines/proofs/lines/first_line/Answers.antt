@@ -1,6 +1,6 @@
-use Rattle.std.proofs.Common.{◌≡◌, ◌==◌, get_or, true, false, arith, sym, ◌∙◌}
+use Rattle.std.proofs.Common.{◌≡◌, ◌==◌, get_or, false, arith, sym, ◌∙◌}
 use Rattle.std.proofs.lemmas.Bool.Decides.{nat_tests}
-use Rattle.asm_lines.proofs.Steps.{lines_on, lines_cut}
+use Rattle.asm_lines.proofs.Steps.{lines_on}
 use Rattle.asm_lines.proofs.lines.first_line.Goals as goal
 
 pub loop-i-preserved : goal.loop-i-preserved

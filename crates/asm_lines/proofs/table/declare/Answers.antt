@@ -1,7 +1,7 @@
-use Rattle.std.proofs.Common.{◌≡◌, not, ◌++◌, ◌∷◌, [], ◌∙◌, sym, ap, if◌then◌else◌}
+use Rattle.std.proofs.Common.{not, ◌++◌, ◌∷◌, [], ◌∙◌, sym, ap, if◌then◌else◌}
 use Rattle.std.specs.List.{list_any}
 use Rattle.std.specs.Str.{bytes_eq}
-use Rattle.asm_lines.specs.Tables.{words_seen, declare, place_of}
+use Rattle.asm_lines.specs.Tables.{words_seen, place_of}
 use Rattle.asm_lines.proofs.Known.{declared_place}
 use Rattle.asm_lines.proofs.Maps.{list_any-map, place-map, if_map}
 use Rattle.asm_lines.proofs.table.declare.Goals as goal
