@@ -1,10 +1,10 @@
 -- Sets of registers as increasing lists.
-use Rattle.std.proofs.Common.{◌≡◌, ◌≢◌, ◌==◌, eqb, ℕ, zero, suc, ◌/◌, ◌^◌, ◌<◌, ◌*◌, ◌%◌, Bool, true, false, cond, [], ◌∷◌, ◌++◌, length, get_or, ap, sym, subst, refl, ◌∙◌, inl, inr, arith, bit_and}
-use Rattle.std.specs.Int.{bit_at, bit_not, w128, trailing_zeros}
-use Rattle.std.proofs.lemmas.Bool.{cases_eq}
+use Rattle.std.proofs.Common.{◌≡◌, ◌≢◌, ◌==◌, eqb, ℕ, zero, suc, ◌/◌, ◌^◌, ◌<◌, ◌-◌, Bool, true, false, cond, [], ◌∷◌, ◌++◌, length, get_or, ap, sym, subst, refl, ◌∙◌, inl, inr, arith, bit_and}
+use Rattle.std.specs.Int.{bit_at, w128, trailing_zeros}
+use Rattle.std.proofs.lemmas.Bool.{cases_eq, cases_lt}
 use Rattle.std.proofs.lemmas.List.{get_or_append_left, length-append}
 use Rattle.std.proofs.lemmas.List.Elements.{Contains-get_or}
-use Rattle.std.proofs.lemmas.Nat.Bits.{shr_and_one, bit_at-trailing_zeros, bit_at_clear_same, bit_at_clear_other}
+use Rattle.std.proofs.lemmas.Nat.Bits.{shr_and_one, bit_at-trailing_zeros, bit_at-suc, bit_at_and, bit_at_lowest}
 use Rattle.std.proofs.Math.Seq.{get_or-append_seam}
 use Rattle.liveness.specs.Sets.{IsSetOf, Lists, members}
 use Rattle.liveness.proofs.Sizes.{member_set, set_member, below_width}
@@ -77,13 +77,42 @@ least_first (suc w) n m t less one low none same =
           rw (top, rest) (push (bit_at n w == 1))
     ]
 
-pub takes_least : (n : ℕ) → 0 < n → n < 2 ^ 128
-    → members 128 n ≡ trailing_zeros w128 n ∷ members 128 (bit_and n (bit_not w128 (1 * 2 ^ trailing_zeros w128 n % 2 ^ 128)))
+-- one less: the lowest 1 is gone, and all that stands above it is as it was
+
+same_half : (n m i : ℕ) → m / 2 ≡ n / 2 → 0 < i → bit_at m i ≡ bit_at n i
+same_half n m zero half pos = absurd (omega arith)
+same_half n m (suc i) half pos = bit_at-suc m i ∙ ap (λ k. bit_at k i) half ∙ sym (bit_at-suc n i)
+
+half_less : (n m t i : ℕ) → m / 2 ≡ n / 2 - 1 → ((j : ℕ) → t < j → bit_at (n / 2 - 1) j ≡ bit_at (n / 2) j) → suc t < i → bit_at m i ≡ bit_at n i
+half_less n m t zero half above less = absurd (omega arith)
+half_less n m t (suc i) half above less = bit_at-suc m i ∙ ap (λ k. bit_at k i) half ∙ above i (omega arith) ∙ sym (bit_at-suc n i)
+
+one_less : (t n : ℕ) → 0 < n → bit_at n t ≡ 1 → ((i : ℕ) → i < t → bit_at n i ≡ 0) → (bit_at (n - 1) t ≡ 0) × ((i : ℕ) → t < i → bit_at (n - 1) i ≡ bit_at n i)
+one_less zero n some one low =
+    let odd = bit_at_lowest n in
+    let even = bit_at_lowest (n - 1) in
+    (omega arith, λ i above. same_half n (n - 1) i (omega arith) above)
+one_less (suc t) n some one low =
+    let even = bit_at_lowest n in
+    let first = low 0 (omega arith) in
+    let half : (n - 1) / 2 ≡ n / 2 - 1 = omega arith in
+    let rest = one_less t (n / 2) (omega arith) (sym (bit_at-suc n t) ∙ one) (λ i less. sym (bit_at-suc n i) ∙ low (suc i) (omega arith)) in
+    (bit_at-suc (n - 1) t ∙ ap (λ k. bit_at k t) half ∙ rest.0, λ i above. half_less n (n - 1) t i half rest.1 above)
+
+pub takes_least : (n : ℕ) → 0 < n → n < 2 ^ 128 → members 128 n ≡ trailing_zeros w128 n ∷ members 128 (bit_and n (n - 1))
 takes_least n some small =
     let t = bit_at-trailing_zeros w128 n some small in
-    least_first 128 n (bit_and n (bit_not w128 (1 * 2 ^ trailing_zeros w128 n % 2 ^ 128))) (trailing_zeros w128 n) t.0 t.1 t.2
-    (bit_at_clear_same w128 n (trailing_zeros w128 n) t.0)
-    (λ i within other. bit_at_clear_other w128 n (trailing_zeros w128 n) t.0 i within other)
+    let k = trailing_zeros w128 n in
+    let less = one_less k n some t.1 t.2 in
+    let there = bit_at_and n (n - 1) k in
+    let gone = less.0 in
+    least_first 128 n (bit_and n (n - 1)) k t.0 t.1 t.2 (omega arith)
+    (λ i within other.
+    let here = bit_at_and n (n - 1) i in
+    elim (cases_lt i k) [
+      | inl below ↦ let none = t.2 i below in omega arith
+      | inr from ↦ let same = less.1 i (omega arith) in omega arith
+    ])
 
 pub takes_none : members 128 0 ≡ []
 unfolding members

@@ -33,6 +33,6 @@ pub fn take_least(set: &mut u128) -> Option<VReg>
         return None;
     }
     let k = set.trailing_zeros();
-    *set &= !(1u128 << k);
+    *set &= *set - 1;
     Some(VReg(k as u16))
 }

@@ -311,8 +311,3 @@ walk_valid code p r plan order few closed has_room walk =
       rows = λ i row is.
           subst (λ n. IsValidRow code n plan.r i row) (sym private) (subst (λ n. IsValidRow code p n i row) (sym total) (all.valid i row is));
     }
-
--- the wishes of a walk with as many private places as places in all are below that number
-pub wishes_low : (code : List Line) (p : ℕ) → IsClosedCode code → HasRoom code p p → (n : ℕ) → n ≤ length code → (rows : List PlanRow) (wishes : Table)
-    → Walked code p n rows wishes → (k x : ℕ) → place_at wishes k ≡ Some x → x < p
-wishes_low code p closed has_room n within rows wishes walked = (walked_valid code p p (omega arith) closed has_room n within rows wishes walked).wish.low

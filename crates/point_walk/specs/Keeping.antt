@@ -17,6 +17,11 @@ abbrev pub AreBelow : ℕ → Table → List ℕ → Type 0
 AreBelow p table [] = Unit {0}
 AreBelow p table (k ∷ ks) = (x : ℕ) × (place_at table k ≡ Some x) × (x < p) × AreBelow p table ks
 
+-- those registers of the list that have a place have one below p
+abbrev pub AreLow : ℕ → Table → List ℕ → Type 0
+AreLow p table [] = Unit {0}
+AreLow p table (k ∷ ks) = ((x : ℕ) → place_at table k ≡ Some x → x < p) × AreLow p table ks
+
 -- the table without the places of these registers
 abbrev pub cleared : Table → List ℕ → Table
 cleared table [] = table

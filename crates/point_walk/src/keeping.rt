@@ -1,7 +1,7 @@
 ghost use Rattle.std.specs.Prelude.{ℕ, ◌≡◌, ◌<◌, true, Some, []};
 ghost use Rattle.liveness.specs.Sets.{members};
 ghost use Rattle.point_walk.specs.Tables.{IsTable};
-ghost use Rattle.point_walk.specs.Keeping.{AreFresh, AreBelow, cleared};
+ghost use Rattle.point_walk.specs.Keeping.{AreFresh, AreBelow, AreLow, cleared};
 
 use crate::giving::{if_below, if_untaken, place_set};
 use liveness::take_least;
@@ -28,6 +28,30 @@ fn are_below(registers: u128, p: u32, table: &[Option<u8>]) -> bool
         }
     }
     true
+}
+
+/// Whether each register of the set that has a place has one below `p`.
+pub fn are_low(registers: u128, p: u32, table: &[Option<u8>]) -> bool
+    requires { IsTable table.now }
+    ensures { result ≡ true → AreLow p table.now (members 128 registers) }
+{
+    let mut rest = registers;
+    'registers: while let Some(register) = take_least(&mut rest) {
+        if !is_low(table[register.0 as usize], p) {
+            return false;
+        }
+    }
+    true
+}
+
+/// Whether it is below `p`, if there is one.
+fn is_low(place: Option<u8>, p: u32) -> bool
+    ensures { result ≡ true → (x : ℕ) → place ≡ Some x → x < p }
+{
+    match place {
+        Some(place) => u32::from(place) < p,
+        None => true,
+    }
 }
 
 /// Whether each register of the set has a place, and no two the same.

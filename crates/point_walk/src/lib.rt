@@ -7,4 +7,4 @@ mod row;
 mod stage;
 mod walking;
 
-pub use walking::walk;
+pub use walking::{Route, walk, walk_route};

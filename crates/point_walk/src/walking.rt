@@ -1,16 +1,27 @@
-ghost use Rattle.std.specs.Prelude.{ℕ, ◌≡◌, ◌≤◌, IfOk, length};
+ghost use Rattle.std.specs.Prelude.{ℕ, ◌≡◌, ◌<◌, ◌≤◌, IfOk, length, true};
 ghost use Rattle.flow_graph.specs.Paths.{IsClosedCode};
 ghost use Rattle.liveness.specs.Lives.{IsLiveOf};
 ghost use Rattle.liveness.specs.Pressures.{IsPrivatePressure, IsTotalPressure};
 ghost use Rattle.plan.specs.declared.row.Plan.{Plan as PlanModel};
+ghost use Rattle.plan.specs.declared.row.PlanRow.{PlanRow as RowModel};
 ghost use Rattle.plan.specs.ValidPlans.{IsValidPlan};
-ghost use Rattle.point_walk.specs.Walks.{IsWalk, AreWalked};
+ghost use Rattle.point_walk.specs.Walks.{IsWalk, AreWalked, Follows, Table};
+ghost use Rattle.point_walk.specs.Tables.{IsTable};
+ghost use Rattle.point_walk.specs.Lasting.{IsLasting};
 
+use crate::keeping::are_low;
 use crate::row::next_row;
-use liveness::Live;
+use liveness::{Live, crossing};
 use micro_isa::{Line, List, MOST_FILE, MOST_REGISTERS, NoMemory, Program};
 use plan::{Plan, PlanRow};
 use std::alloc::Global;
+
+/// The plan of a walk, and whether its rows are those of each walk with more private places too.
+#[derive(Drop)]
+pub struct Route {
+    pub plan: Plan,
+    pub lasting: bool,
+}
 
 /// The plan that goes through the instructions in order: what crosses gets private places, and each
 /// register keeps its place from the row before where it can. `p` and `r` are at least the
@@ -26,27 +37,75 @@ pub fn walk(alloc: Global, program: &Program, live: &Live, p: u32, r: u32) -> Re
     ensures valid { IfOk result (λ plan. IsValidPlan program.now.code plan) }
     ensures once { (x y : PlanModel) → IsWalk program.now.code p r x → IsWalk program.now.code p r y → x ≡ y }
 {
+    let route = walk_route(alloc, program, live, p, r)?;
+    Ok(route.plan)
+}
+
+/// The same plan, and whether it serves more private places.
+pub fn walk_route(
+    alloc: Global,
+    program: &Program,
+    live: &Live,
+    p: u32,
+    r: u32,
+) -> Result<Route, NoMemory>
+    requires closed { IsClosedCode program.now.code }
+    requires live { IsLiveOf program.now.code live.now }
+    requires private { (n : ℕ) × IsPrivatePressure program.now.code n × (n ≤ p) }
+    requires total { (n : ℕ) × IsTotalPressure program.now.code n × (n ≤ r) }
+    requires order { p ≤ r }
+    requires few { r ≤ MOST_FILE }
+    ensures walked { IfOk result (λ route. IsWalk program.now.code p r route.plan) }
+    ensures valid { IfOk result (λ route. IsValidPlan program.now.code route.plan) }
+    ensures lasting { IfOk result (IsLasting program.now.code) }
+{
     match walk_rows(alloc, program.code.as_slice(), live, p) {
-        Ok(rows) => Ok(Plan { p, r, rows }),
+        Ok(Rows { rows, lasting }) => Ok(Route {
+            plan: Plan { p, r, rows },
+            lasting,
+        }),
         Err(NoMemory) => Err(NoMemory),
     }
 }
 
+/// The rows of a walk, and whether they are those of each walk with more private places too.
+#[derive(Drop)]
+struct Rows {
+    rows: List<PlanRow>,
+    lasting: bool,
+}
+
 /// The rows of all instructions.
-fn walk_rows(alloc: Global, code: &[Line], live: &Live, p: u32) -> Result<List<PlanRow>, NoMemory>
+fn walk_rows(alloc: Global, code: &[Line], live: &Live, p: u32) -> Result<Rows, NoMemory>
     requires closed { IsClosedCode code.now }
     requires live { IsLiveOf code.now live.now }
-    ensures { IfOk result (λ rows. AreWalked code.now p rows) }
+    ensures walked { IfOk result (λ found. AreWalked code.now p found.rows) }
+    ensures lasting { IfOk result (λ found. found.lasting ≡ true → (q : ℕ) → p ≤ q → AreWalked code.now q found.rows) }
 {
     let mut rows = List::new(alloc);
     rows.reserve(code.len())?;
     let mut wishes: [Option<u8>; MOST_REGISTERS] = [None; MOST_REGISTERS];
     let mut held = 0;
+    let mut lasting = true;
     'rows: for i in 0..code.len() {
+        let lasts = lasts(code, live, i, p, &wishes);
         let row = next_row(alloc, code, live, i, p, &mut wishes, &mut held)?;
         let Ok(()) = rows.push(row) else {
             return Err(NoMemory);
         };
+        lasting = lasting && lasts;
     }
-    Ok(rows)
+    Ok(Rows { rows, lasting })
+}
+
+/// Whether row `i` is the same with more private places: no register that crosses wishes for one of
+/// those.
+fn lasts(code: &[Line], live: &Live, i: usize, p: u32, wishes: &[Option<u8>]) -> bool
+    requires closed { IsClosedCode code.now }
+    requires live { IsLiveOf code.now live.now }
+    requires here { i < length code.now }
+    requires wishes { IsTable wishes.now }
+    ensures { result ≡ true → (q : ℕ) (row : RowModel) (left : Table) → p ≤ q → Follows code.now p i wishes.now row left → Follows code.now q i wishes.now row left }
+{
+    are_low(crossing(code, live, i), p, wishes)
 }

@@ -10,4 +10,4 @@ mod whole;
 
 pub use fit::Fit;
 pub use region::{all_fit, by_region, region_fits, region_plan};
-pub use whole::{first_fit, whole_fit};
+pub use whole::{first_fit, fit_plan, whole_fit};

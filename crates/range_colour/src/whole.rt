@@ -1,10 +1,11 @@
-ghost use Rattle.std.specs.Prelude.{ℕ, ◌≡◌, ◌<◌, ◌≤◌, length, slice_index, IfOk, IfSome, Option, vec_len};
+ghost use Rattle.std.specs.Prelude.{ℕ, ◌≡◌, ◌<◌, ◌≤◌, length, slice_index, IfOk, IfSome, Option, Some, true, vec_len};
 ghost use Rattle.flow_graph.specs.Paths.{Edge, IsClosedCode};
 ghost use Rattle.liveness.specs.Lives.{IsLiveOf};
 ghost use Rattle.plan.specs.ValidPlans.{IsValidPlan};
 ghost use Rattle.range_colour.specs.Groups.{Every, InUse};
 ghost use Rattle.range_colour.specs.PlacedPlans.{AreRowsPlaced, IsWholeFit, MovesNothing};
 ghost use Rattle.range_colour.specs.Fits.{IsFit};
+ghost use Rattle.range_colour.specs.Regional.{fits_test};
 
 use crate::fit::Fit;
 use crate::rows::row_at;
@@ -53,8 +54,31 @@ fn whole_plan(
     if !fit.fits(p, r) {
         return Ok(None);
     }
+    let plan = fit_plan(alloc, code, live, &fit, p, r)?;
+    Ok(Some(plan))
+}
+
+/// The plan by this fit over all instructions, which fits in these sizes.
+pub fn fit_plan(
+    alloc: Global,
+    code: &[Line],
+    live: &Live,
+    fit: &Fit,
+    p: u32,
+    r: u32,
+) -> Result<Plan, NoMemory>
+    requires closed { IsClosedCode code.now }
+    requires live { IsLiveOf code.now live.now }
+    requires fit { IsFit code.now Every fit.now }
+    requires fits { fits_test fit.now p r ≡ true }
+    requires order { p ≤ r }
+    requires few { r ≤ MOST_FILE }
+    ensures fit { IfOk result (λ plan. IsWholeFit code.now p r (Some plan)) }
+    ensures valid { IfOk result (λ plan. IsValidPlan code.now plan) }
+    ensures still { IfOk result (λ plan. (i j : ℕ) → Edge code.now i j → MovesNothing code.now plan i j) }
+{
     let rows = rows(alloc, code, live, fit.places())?;
-    Ok(Some(Plan { p, r, rows }))
+    Ok(Plan { p, r, rows })
 }
 
 /// The first fit over all instructions.

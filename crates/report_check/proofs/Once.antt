@@ -8,8 +8,8 @@ use Rattle.std.proofs.lemmas.Map.Steps.{le-length_from_below}
 use Rattle.micro_isa.specs.declared.program.Line.{Line}
 use Rattle.micro_isa.specs.declared.program.Program.{Program}
 use Rattle.micro_isa.specs.declared.program.Bundle.{Bundle}
-use Rattle.liveness.specs.Pressures.{IsPrivatePressure, IsTotalPressure}
 use Rattle.pressure.specs.Regions.{IsNumbered}
+use Rattle.pressure.proofs.Unique.{pressure_once}
 use Rattle.report_check.specs.declared.facts.Facts.{Facts}
 use Rattle.micro_kit.specs.Text.{in_order}
 use Rattle.report_check.specs.Facts.{HasRegions, AreReached, lost_line, lost_lines, AreUnreachable, AreFactsOf, AreAllFacts}
@@ -17,22 +17,6 @@ use Rattle.report_check.specs.Checks.{check_text, HasOneCheck}
 
 both_ways : (a b : ℕ) → a ≤ b → b ≤ a → a ≡ b
 both_ways a b le ge = omega arith
-
--- pressures
-
-private_le : (code : List Line) (p q : ℕ) → IsPrivatePressure code p → IsPrivatePressure code q → p ≤ q
-private_le code p q is other = elim is.reached [
-  | inl entry ↦ other.entry p entry
-  | inr stay ↦ other.stay stay.0 p stay.1 stay.2
-]
-
-total_le : (code : List Line) (r s : ℕ) → IsTotalPressure code r → IsTotalPressure code s → r ≤ s
-total_le code r s is other =
-    let at = is.reached in
-    elim at.2 [
-      | inl before ↦ other.before at.0 r at.1 before
-      | inr after ↦ other.after at.0 r at.1 after
-    ]
 
 -- regions
 
@@ -106,11 +90,10 @@ same_unreachable code xs ys one other = one.2 ∙ same_lost code one.0 other.0 o
 same_facts : (program : Program) (a b : Facts) → AreFactsOf program a → AreFactsOf program b → a ≡ b
 same_facts program a b one other =
     let code = program.code in
-    let private = both_ways a.pressure.private b.pressure.private (private_le code _ _ one.pressure.private other.pressure.private) (private_le code _ _ other.pressure.private one.pressure.private) in
-    let all = both_ways a.pressure.all b.pressure.all (total_le code _ _ one.pressure.all other.pressure.all) (total_le code _ _ other.pressure.all one.pressure.all) in
+    let pressures = pressure_once code a.pressure b.pressure one.pressure other.pressure in
     let regions = same_count code a.regions b.regions one.regions other.regions in
     let lost = same_unreachable code a.unreachable b.unreachable one.unreachable other.unreachable in
-    λ i. record { pressure = record { private = private i; all = all i }; regions = regions i; unreachable = lost i }
+    λ i. record { pressure = pressures i; regions = regions i; unreachable = lost i }
 
 same_all : (programs : List Program) (xs ys : List Facts) → AreAllFacts programs xs → AreAllFacts programs ys → xs ≡ ys
 same_all [] [] [] one other = refl

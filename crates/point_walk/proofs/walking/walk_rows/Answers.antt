@@ -1,6 +1,27 @@
-use Rattle.std.proofs.Common.{refl, ◌∙◌}
+use Rattle.std.proofs.Common.{refl, sym, ◌∙◌}
+use Rattle.point_walk.proofs.Beyond.{walked_more}
 use Rattle.point_walk.proofs.Slots.{nothing_is_table, nothing_has}
 use Rattle.point_walk.proofs.walking.walk_rows.Goals as goal
+use Rattle.point_walk.proofs.walking.walk_rows.Goals.{then-lasting, else-lasting}
 
 pub rows-init : goal.rows-init
-rows-init c = record { table = nothing_is_table; among = record { among = λ k x at. absurd (nothing_has k x at) }; walked = (c.reserve.ensures ∙ c.new-rows.ensures, refl) }
+rows-init c = record {
+  table = nothing_is_table;
+  among = record { among = λ k x at. absurd (nothing_has k x at) };
+  walked = (c.reserve.ensures ∙ c.new-rows.ensures, refl);
+  lasting = λ lasts q order. (c.reserve.ensures ∙ c.new-rows.ensures, refl);
+}
+
+pub rows-preserved : goal.rows-preserved
+rows-preserved c = record {
+  table = c.next_row.ensures.wishes;
+  among = c.in_ok-row.ensures.held;
+  walked =
+      walked_more c.args.code.now c.args.p c.rows.i c.rows.rows c.push.new.self c.rows.wishes c.next_row.new.table c.in_ok-row.row c.rows.invariant.walked c.in_ok-row.ensures.follows c.in-Ok.ensures.ok;
+  lasting = elim c.if-lasting.branch [
+    | then-lasting w ↦ λ all q order.
+        walked_more c.args.code.now q c.rows.i c.rows.rows c.push.new.self c.rows.wishes c.next_row.new.table c.in_ok-row.row (c.rows.invariant.lasting w.if-lasting.true q order)
+        (c.lasts-lasts.ensures (sym w.lasting-is ∙ all) q c.in_ok-row.row c.next_row.new.table order c.in_ok-row.ensures.follows) c.in-Ok.ensures.ok
+    | else-lasting w ↦ λ all. absurd (let off = w.lasting-is in cc)
+  ];
+}

@@ -1,3 +1,4 @@
+use Rattle.std.proofs.Common.{◌≡◌, ◌≤◌, ℕ, true}
 use Rattle.point_walk.specs.Walks.{Walked}
 use Rattle.liveness.specs.Sets.{members}
 use Rattle.point_walk.specs.Tables.{IsTable}
@@ -9,4 +10,5 @@ invariant-rows l = record {
   table : IsTable l.wishes;
   among : AreAmong l.wishes (members 128 l.held);
   walked : Walked l.code l.p l.i l.rows l.wishes;
+  lasting : l.lasting ≡ true → (q : ℕ) → l.p ≤ q → Walked l.code q l.i l.rows l.wishes;
 }

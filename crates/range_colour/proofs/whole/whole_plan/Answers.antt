@@ -1,32 +1,7 @@
-use Rattle.std.proofs.Common.{ℕ, List, sym, subst, ◌∙◌}
-use Rattle.std.specs.Prelude.{slice_index}
-use Rattle.range_colour.specs.PlacedPlans.{AreRowsPlaced}
-use Rattle.range_colour.proofs.Planning.{whole_none, whole_some, whole_small, whole_still, whole_valid}
+use Rattle.std.proofs.Common.{sym, ◌∙◌}
+use Rattle.range_colour.proofs.Planning.{whole_none}
 use Rattle.range_colour.proofs.whole.whole_plan.Goals as goal
 
 pub returns-then-not-fits-clause-fit : goal.returns-then-not-fits-clause-fit
 returns-then-not-fits-clause-fit c =
     whole_none c.args.code.now c.in_ok-fit.fit c.args.p c.args.r c.in_ok-fit.ensures c.requires.order c.requires.few (sym c.fits.ensures ∙ c.if-not-fits.true)
-
-pub rows-requires-clause-inside : goal.rows-requires-clause-inside
-rows-requires-clause-inside c i k less used = rw c.places.ensures (c.in_ok-fit.ensures.inside k (i, less, tt, used))
-
-pub rows-requires-clause-small : goal.rows-requires-clause-small
-rows-requires-clause-small c i k less used =
-    rw c.places.ensures (whole_small c.args.code.now c.in_ok-fit.fit c.args.p c.args.r c.in_ok-fit.ensures c.requires.order c.requires.few
-    (sym c.fits.ensures ∙ c.if-not-fits.false) i k less used)
-
-pub returns-clause-fit : goal.returns-clause-fit
-returns-clause-fit c =
-    let rows = subst (λ (xs : List ℕ). AreRowsPlaced c.args.code.now (λ i. slice_index xs) c.in_ok-rows.rows) c.places.ensures c.in_ok-rows.ensures in
-    whole_some c.args.code.now c.in_ok-fit.fit c.args.p c.args.r c.in_ok-fit.ensures c.requires.order c.requires.few (sym c.fits.ensures ∙ c.if-not-fits.false) c.in_ok-rows.rows rows
-
-pub returns-clause-valid : goal.returns-clause-valid
-returns-clause-valid c =
-    let rows = subst (λ (xs : List ℕ). AreRowsPlaced c.args.code.now (λ i. slice_index xs) c.in_ok-rows.rows) c.places.ensures c.in_ok-rows.ensures in
-    whole_valid c.args.code.now c.in_ok-fit.fit c.args.p c.args.r c.in_ok-fit.ensures c.requires.order c.requires.few (sym c.fits.ensures ∙ c.if-not-fits.false) c.in_ok-rows.rows rows
-
-pub returns-clause-still : goal.returns-clause-still
-returns-clause-still c =
-    let rows = subst (λ (xs : List ℕ). AreRowsPlaced c.args.code.now (λ i. slice_index xs) c.in_ok-rows.rows) c.places.ensures c.in_ok-rows.ensures in
-    whole_still c.args.code.now c.in_ok-fit.fit c.args.p c.args.r c.in_ok-fit.ensures c.requires.order c.requires.few (sym c.fits.ensures ∙ c.if-not-fits.false) c.in_ok-rows.rows rows
