@@ -41,9 +41,9 @@ is_allocation b parts plans budget image need formed pressures preferred chosen 
     }
 
 -- a refusal of the tables is one of the bundle
-pub refused_too : (b : Bundle) (parts : List Pressure) (spare : ℕ) (tables : List CostTable) (result : Result Budget AllocFault) → ArePressures b.programs parts → AreTabled spare b.programs tables
+pub refused_too : (b : Bundle) (parts : List Pressure) (spare : ℕ) (tables : List CostTable) {A : Type 0} (result : Result A AllocFault) → ArePressures b.programs parts → AreTabled spare b.programs tables
     → IfErr result (Refused tables b.file) → IfErr result (TellsFault b)
-refused_too b parts spare tables (Ok budget) pressures tabled refused = tt
+refused_too b parts spare tables (Ok found) pressures tabled refused = tt
 refused_too b parts spare tables (Err (NoFit need size)) pressures tabled refused =
     let number : need ≡ need_of parts = refused.0 ∙ ap demands_need (demands_same spare b.programs parts tables pressures tabled) ∙ need_same parts in
     let file = refused.1 in

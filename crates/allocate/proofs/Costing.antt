@@ -1,8 +1,7 @@
 -- What cells cost, by the costs of fits and of the walk.
-use Rattle.std.proofs.Common.{◌≡◌, ℕ, ◌+◌, ◌<◌, ◌≤◌, min, nat_le, Bool, true, false, List, Option, Some, None, refl, sym, ap, subst, ◌∙◌, arith, inl, inr}
-use Rattle.std.specs.Prelude.{if◌then◌else◌, slice_index}
+use Rattle.std.proofs.Common.{◌≡◌, ℕ, ◌+◌, ◌<◌, ◌≤◌, ◌⊎◌, min, true, List, Option, Some, None, refl, sym, ap, subst, ◌∙◌, arith, inl, inr}
+use Rattle.std.specs.Prelude.{IfSome, slice_index}
 use Rattle.std.proofs.lemmas.Bool.{cases_lt}
-use Rattle.std.proofs.lemmas.Bool.Decides.{nat_tests}
 use Rattle.micro_isa.specs.declared.limits.TheConstants.{MOST_FILE}
 use Rattle.budget.specs.declared.TheConstants.{SIZES}
 use Rattle.micro_isa.specs.declared.program.Line.{Line}
@@ -11,6 +10,7 @@ use Rattle.pressure.specs.declared.region.Regions.{Regions}
 use Rattle.pressure.specs.declared.pressure_of.Pressure.{Pressure}
 use Rattle.pressure.specs.Pressures.{IsPressureOf}
 use Rattle.pressure.specs.Regions.{AreRegionsOf}
+use Rattle.pressure.proofs.Unique.{pressure_once}
 use Rattle.plan.specs.declared.row.Plan.{Plan}
 use Rattle.range_colour.specs.declared.fit.Fit.{Fit}
 use Rattle.range_colour.specs.PlacedPlans.{IsWholeFit, IsRegionFit}
@@ -18,15 +18,15 @@ use Rattle.range_colour.specs.Regional.{AreFits, DoFit}
 use Rattle.range_colour.proofs.Grouping.{region_none}
 use Rattle.range_colour.proofs.Unique.{region_once}
 use Rattle.point_walk.specs.Walks.{IsWalk}
-use Rattle.point_walk.proofs.Beyond.{walk_beyond}
 use Rattle.point_walk.proofs.Once.{walk_once}
-use Rattle.point_walk.proofs.Rooms.{room_of}
+use Rattle.budget.specs.Costs.{clipped}
 use Rattle.emitted.specs.Words.{glue_of}
 use Rattle.emit.specs.Sized.{with_places}
-use Rattle.allocate.specs.declared.cell.Planned.{Planned}
-use Rattle.allocate.specs.Cells.{IsCell}
+use Rattle.allocate.specs.declared.kept.Kept.{Kept}
+use Rattle.allocate.specs.declared.priced.PricedWalk.{PricedWalk}
+use Rattle.allocate.specs.Cells.{IsCell, IsCellOf, all_places}
 use Rattle.allocate.specs.Fits.{AreRegionCosts}
-use Rattle.allocate.specs.Tables.{Costs, IsFitCost, IsRegionCost, AreWalkCosts, IsWalkCost, lesser_cost}
+use Rattle.allocate.specs.Tables.{Costs, HasRows, IsCellPlan, IsFitCost, IsFreeFrom, IsKept, IsKeptBy, IsPriced, IsRegionCost, AreWalkCosts, IsWalkCost, IsWalkKept, lesser_cost}
 use Rattle.allocate.proofs.Still.{whole_no_glue}
 
 module _ (code : List Line) (p r : ℕ) where
@@ -82,21 +82,18 @@ module _ (code : List Line) (p r : ℕ) where
         (region.1.0, subst (λ n. IsCell code p r n region.1.0) is (region_cell cost walked region.1.0 walk.0 region.0 region.1.1 region.1.2 walk.1 walk.2 (omega arith)))
   ]
 
-  -- the same with plans
-  pub lesser_planned : (fitted walked : Planned) → IsWholeFit code p r None → IsRegionFit code p r (Some fitted.plan) → fitted.cost ≡ glue_of code fitted.plan
-      → IsWalk code p r walked.plan → walked.cost ≡ glue_of code walked.plan
-      → IsCell code p r (if nat_le fitted.cost walked.cost then fitted else walked).cost (if nat_le fitted.cost walked.cost then fitted else walked).plan
-  lesser_planned fitted walked out fit glue walk walk_glue = by (nat_le fitted.cost walked.cost) refl
-    where
-      by : (b : Bool) → nat_le fitted.cost walked.cost ≡ b → IsCell code p r (if b then fitted else walked).cost (if b then fitted else walked).plan
-      by true e = region_cell fitted.cost walked.cost fitted.plan walked.plan out fit glue walk walk_glue (grind (arith, nat_tests))
-      by false e = walk_cell fitted.cost walked.cost fitted.plan walked.plan out fit glue walk walk_glue (grind (arith, nat_tests))
-
 -- a cell costs its plan's glue
 pub cell_glue : (code : List Line) (p r cost : ℕ) (plan : Plan) → IsClosedCode code → IsCell code p r cost plan → cost ≡ glue_of code plan
 cell_glue code p r cost plan closed (inl one) = one.free ∙ sym (whole_no_glue code p r plan closed one.fit)
 cell_glue code p r cost plan closed (inr (inl one)) = one.glue
 cell_glue code p r cost plan closed (inr (inr one)) = one.glue
+
+-- both plans by the fits over the regions are one
+pub region_costs_same : (code : List Line) (p r cost : ℕ) (plan other : Plan) → IsRegionFit code p r (Some plan) → cost ≡ glue_of code plan → IsRegionFit code p r (Some other) → cost ≡ glue_of code other
+region_costs_same code p r cost plan other fit glue also = glue ∙ ap (glue_of code) (some_plan plan other (region_once code p r (Some plan) (Some other) fit also))
+  where
+    some_plan : (x y : Plan) → Some x ≡ Some y → x ≡ y
+    some_plan x y e = cc
 
 -- what runs out of more places runs out of fewer
 pub region_out : (code : List Line) (p r m n : ℕ) → p ≤ m → r ≤ n → IsRegionFit code m n None → IsRegionFit code p r None
@@ -132,13 +129,38 @@ region_costs_are code regions are fits are_fits from plan costs serves numbers j
   λ test. (record { p = p; r = from + j; rows = plan.rows }, serves p (from + j) order few test, numbers j less),
 )
 
--- a walk with as many private places as places in all serves with more private ones
-pub beyond_costs : (code : List Line) (part : Pressure) (costs : List ℕ) → IsClosedCode code → IsPressureOf code part → part.private ≤ part.all → AreWalkCosts code part.all part.all costs
-    → (p : ℕ) → part.all ≤ p → AreWalkCosts code p part.all costs
-beyond_costs code part costs closed exact order walked p le j less =
-    let room = room_of code part.all part.all (part.private, exact.private, order) (part.all, exact.all, omega arith) in
-    let walk = walked j less in
-    (record { p = p; r = part.all + j; rows = walk.0.rows }, walk_beyond code part.all p (part.all + j) (part.all + j) walk.0 le closed room walk.1, walk.2 ∙ same_glue walk.0 walk.1.all)
-  where
-    same_glue : (plan : Plan) → plan.r ≡ part.all + j → glue_of code plan ≡ glue_of code (record { p = p; r = part.all + j; rows = plan.rows })
-    same_glue plan e = λ i. glue_of code (record { p = plan.p; r = e i; rows = plan.rows })
+-- the walk of these rows costs what was counted
+pub walk_costs_are : (code : List Line) (p from : ℕ) (walk : PricedWalk) → IsPriced code from walk → HasRows code p walk.route.plan → AreWalkCosts code p from walk.costs
+walk_costs_are code p from walk priced rows j less = (record { p = p; r = from + j; rows = walk.route.plan.rows }, rows (from + j), priced.costs j less)
+
+-- a walk serves its own number of private places, and more of them where it lasts
+pub rows_serve : (code : List Line) (p from : ℕ) (walk : PricedWalk) → IsPriced code from walk → (p ≡ walk.route.plan.p) ⊎ ((walk.route.lasting ≡ true) × (walk.route.plan.p ≤ p)) → HasRows code p walk.route.plan
+rows_serve code p from walk priced (inl same) = subst (λ n. HasRows code n walk.route.plan) (sym same) priced.rows
+rows_serve code p from walk priced (inr more) = λ r. priced.lasting more.0 p r more.1
+
+-- the rows of a walk serve whatever the number of places in all
+pub rows_of_walk : (code : List Line) (p r : ℕ) (plan : Plan) → IsWalk code p r plan → HasRows code p plan
+rows_of_walk code p r plan walk s = record { private = refl; all = refl; rows = walk.rows }
+
+pub kept_as : (code : List Line) (part : Pressure) (kept : Kept) → IsPressureOf code part → IsKept code kept → IsKeptBy code part kept
+kept_as code part kept exact is = subst (λ (q : Pressure). IsKeptBy code q kept) (pressure_once code is.pressure part is.exact exact) is.is
+
+pub walk_kept_as : (code : List Line) (part : Pressure) (walk : Option PricedWalk) → IsPressureOf code part → IsWalkKept code walk → IfSome walk (IsPriced code part.all)
+walk_kept_as code part walk exact is = subst (λ (q : Pressure). IfSome walk (IsPriced code q.all)) (pressure_once code is.pressure part is.exact exact) is.is
+
+-- the cell of the places that are used of a size is the context's
+pub chosen_cell : (code : List Line) (part : Pressure) (size shared m n : ℕ) (plan : Plan) → IsPressureOf code part → m ≡ clipped size part.private → n ≡ clipped (size + shared) part.all
+    → IsCellPlan code (part.private + m) (part.all + n) plan → (cost : ℕ) × IsCellOf code size shared cost plan
+chosen_cell code part size shared m n plan exact is_m is_n cell = (
+  cell.0,
+  record {
+    pressure = part;
+    exact = exact;
+    cell = subst (λ k. IsCell code (part.private + k) (all_places part size shared) cell.0 plan) is_m (subst (λ k. IsCell code (part.private + m) (part.all + k) cell.0 plan) is_n cell.1);
+  },
+)
+
+-- a walk that costs nothing and serves more private places
+pub free_from : (code : List Line) (from : ℕ) (walk : PricedWalk) → IsPriced code from walk → walk.route.lasting ≡ true → ((j : ℕ) → j < SIZES → slice_index walk.costs j ≡ 0)
+    → IsFreeFrom code walk.route.plan.p from
+free_from code from walk priced lasting none p j order less = (record { p = p; r = from + j; rows = walk.route.plan.rows }, priced.lasting lasting p (from + j) order, sym (none j less) ∙ priced.costs j less)

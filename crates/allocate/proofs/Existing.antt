@@ -79,7 +79,7 @@ rows_below code at (suc n) each =
     let here = subst (λ k. IsPlacedRow code k (at k) last.0) (sym number) last.1 in
     (earlier.0 ++ last.0 ∷ [], omega arith, pushed_each (λ i row. IsPlacedRow code i (at i) row) earlier.0 last.0 earlier.2 here)
 
-rows_there : (code : List Line) (live : Live) (at : ℕ → ℕ → ℕ) → IsClosedCode code → IsLiveOf code live → (rows : List PlanRow) × AreRowsPlaced code at rows
+pub rows_there : (code : List Line) (live : Live) (at : ℕ → ℕ → ℕ) → IsClosedCode code → IsLiveOf code live → (rows : List PlanRow) × AreRowsPlaced code at rows
 rows_there code live at closed is =
     let found = rows_below code at (length code) (λ i less. row_there code live (at i) i closed is less) in
     (found.0, record { one_each = found.1; each = found.2 })

@@ -1,5 +1,6 @@
 pub mod Zipping
 pub mod Still
+pub mod Unpriced
 pub mod Existing
 pub mod Once
 pub mod Costing

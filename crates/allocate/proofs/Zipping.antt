@@ -2,7 +2,7 @@
 use Rattle.std.proofs.Common.{◌≡◌, ℕ, zero, suc, ◌+◌, ◌<◌, List, [], ◌∷◌, ◌++◌, length, get_or, Some, refl, sym, ap, ◌∙◌, subst, arith, length-append}
 use Rattle.std.proofs.lemmas.Option.{slice_get-get_or, same_Some}
 use Rattle.std.proofs.lemmas.Slice.Zip.{AllZip-long}
-use Rattle.std.specs.Prelude.{slice_get}
+use Rattle.std.specs.Prelude.{slice_get, slice_set}
 use Rattle.std.specs.List.{AllZip}
 use Rattle.micro_isa.specs.declared.program.Line.{Line}
 use Rattle.micro_isa.specs.declared.program.Program.{Program}
@@ -71,3 +71,12 @@ long R ps ys c h lt = omega (arith, AllZip-long (λ q z. R q.code z) ps ys h)
 
 pub one_longer : {B : Type 0} (ys zs : List B) (c : ℕ) (y : B) → zs ≡ ys ++ y ∷ [] → length ys ≡ c → length zs ≡ c + 1
 one_longer ys zs c y e n = ap (λ l. length l) e ∙ length-append ys (y ∷ []) ∙ ap (λ k. k + 1) n
+
+-- one value was put in place of another
+pub zip_set : {B : Type 0} (R : List Line → B → Type 0) (ps : List Program) (ys : List B) (c : ℕ) (y : B) → AllZip (λ q z. R q.code z) ps ys → ((p : Program) → slice_get ps c ≡ Some p → R p.code y)
+    → AllZip (λ q z. R q.code z) ps (slice_set ys c y)
+zip_set R [] [] c y h there = tt
+zip_set R [] (z ∷ ys) c y h there = absurd h
+zip_set R (q ∷ ps) [] c y h there = absurd h
+zip_set R (q ∷ ps) (z ∷ ys) zero y h there = (there q refl, h.1)
+zip_set R (q ∷ ps) (z ∷ ys) (suc c) y h there = (h.0, zip_set R ps ys c y h.1 (λ p is. there p is))

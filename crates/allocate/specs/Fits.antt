@@ -3,9 +3,12 @@ use Rattle.std.specs.Prelude.{ℕ, ◌≡◌, ◌+◌, ◌<◌, ◌≤◌, Bool,
 use Rattle.micro_isa.specs.declared.limits.TheConstants.{MOST_FILE}
 use Rattle.micro_isa.specs.declared.program.Line.{Line}
 use Rattle.plan.specs.declared.row.Plan.{Plan}
+use Rattle.pressure.specs.Regions.{AreRegionsOf}
 use Rattle.range_colour.specs.declared.fit.Fit.{Fit}
 use Rattle.range_colour.specs.PlacedPlans.{IsWholeFit, IsRegionFit}
-use Rattle.range_colour.specs.Regional.{DoFit, fits_test}
+use Rattle.range_colour.specs.Fits.{IsFit}
+use Rattle.range_colour.specs.Groups.{Every}
+use Rattle.range_colour.specs.Regional.{AreFits, DoFit, fits_test}
 use Rattle.budget.specs.declared.TheConstants.{SIZES}
 use Rattle.emitted.specs.Words.{glue_of}
 use Rattle.allocate.specs.declared.fits.Fits.{Fits}
@@ -29,6 +32,13 @@ AreRegionCosts code from fits costs =
     (j p : ℕ) → j < SIZES → p ≤ from + j → from + j ≤ MOST_FILE → TellsRegions code p (from + j) j fits costs
 
 -- the fits are those of the code
+pub record AreMadeOf (code : List Line) (fits : Fits) : Type 0 where
+  pub fit : IsFit code Every fits.whole
+  pub division : AreRegionsOf code fits.division
+  pub parts : AreFits code fits.division fits.regions
+
+-- they are, and the costs are theirs
 pub record AreFitsOf (code : List Line) (from : ℕ) (fits : Fits) : Type 0 where
+  pub made : AreMadeOf code fits
   pub whole : (p r : ℕ) → p ≤ r → r ≤ MOST_FILE → TellsWhole code p r (fits_test fits.whole p r)
   pub regions : AreRegionCosts code from fits.regions fits.costs

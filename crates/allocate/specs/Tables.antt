@@ -1,31 +1,40 @@
 -- What is known while cells are computed.
-use Rattle.std.specs.Prelude.{ℕ, ◌≡◌, ◌+◌, ◌*◌, ◌<◌, ◌≤◌, ◌⊎◌, List, Option, Some, None, length, min, slice_get, slice_index}
+use Rattle.std.specs.Prelude.{ℕ, ◌≡◌, ◌+◌, ◌*◌, ◌<◌, ◌≤◌, ◌⊎◌, List, Option, Some, None, IfSome, true, length, min, slice_get, slice_index}
+use Rattle.std.specs.List.{AllZip}
 use Rattle.micro_isa.specs.declared.program.Line.{Line}
 use Rattle.micro_isa.specs.declared.program.Program.{Program}
 use Rattle.pressure.specs.declared.pressure_of.Pressure.{Pressure}
 use Rattle.pressure.specs.Pressures.{IsPressureOf}
 use Rattle.plan.specs.declared.row.Plan.{Plan}
 use Rattle.plan.specs.ValidPlans.{IsValidPlan}
+use Rattle.range_colour.specs.Fits.{IsFit}
+use Rattle.range_colour.specs.Groups.{Every}
 use Rattle.range_colour.specs.PlacedPlans.{IsWholeFit, IsRegionFit}
+use Rattle.range_colour.specs.Regional.{fits_test}
 use Rattle.point_walk.specs.Walks.{IsWalk}
+use Rattle.point_walk.specs.Lasting.{IsLasting}
 use Rattle.budget.specs.declared.CostTable.{CostTable}
 use Rattle.budget.specs.declared.TheConstants.{SIZES, MOST_COST}
 use Rattle.budget.specs.Costs.{IsCostTable, demands_of}
 use Rattle.budget.specs.Fitting.{need_of}
+use Rattle.emit.specs.Sized.{with_places}
 use Rattle.emitted.specs.Words.{glue_of}
 use Rattle.allocate.specs.declared.cell.Planned.{Planned}
+use Rattle.allocate.specs.declared.kept.Kept.{Kept}
+use Rattle.allocate.specs.declared.kept.Kept.TheVariants.{Free, Walked, Costly}
+use Rattle.allocate.specs.declared.priced.PricedWalk.{PricedWalk}
 use Rattle.allocate.specs.declared.allocation.AllocFault.{AllocFault}
 use Rattle.allocate.specs.declared.allocation.AllocFault.TheVariants.{NoFit, NoMemory}
 use Rattle.allocate.specs.Cells.{IsCell, IsCellOf}
+use Rattle.allocate.specs.Fits.{AreFitsOf, AreMadeOf}
 
 -- some plan costs so much with these numbers of places
 abbrev pub Costs : List Line → ℕ → ℕ → ℕ → Type 0
 Costs code p r cost = (plan : Plan) × IsCell code p r cost plan
 
--- the fit over each region, with its glue, where it has a plan
-abbrev pub IsFitted : List Line → ℕ → ℕ → Option Planned → Type 0
-IsFitted code p r None = IsRegionFit code p r None
-IsFitted code p r (Some found) = IsRegionFit code p r (Some found.plan) × (found.cost ≡ glue_of code found.plan) × IsValidPlan code found.plan
+-- the plan is that of the cell
+abbrev pub IsCellPlan : List Line → ℕ → ℕ → Plan → Type 0
+IsCellPlan code p r plan = (cost : ℕ) × IsCell code p r cost plan
 
 -- what the fit over each region costs, where it has a plan
 abbrev pub IsRegionCost : List Line → ℕ → ℕ → Option ℕ → Type 0
@@ -56,10 +65,50 @@ AreWalkCosts code p from costs = (j : ℕ) → j < SIZES → IsWalkCost code p (
 abbrev pub AreSmall : List ℕ → Type 0
 AreSmall costs = (j : ℕ) → slice_index costs j ≤ MOST_COST
 
--- what the walk costs with `from` private places or more
-abbrev pub IsBeyond : List Line → ℕ → Option (List ℕ) → Type 0
-IsBeyond code from None = Unit {0}
-IsBeyond code from (Some costs) = ((p : ℕ) → from ≤ p → AreWalkCosts code p from costs) × AreSmall costs
+-- the rows of the plan are those of the walk with p private places
+abbrev pub HasRows : List Line → ℕ → Plan → Type 0
+HasRows code p plan = (r : ℕ) → IsWalk code p r (record { p = p; r = r; rows = plan.rows })
+
+-- a walk, and its glue with `from` places in all, with one more, and so on
+pub record IsPriced (code : List Line) (from : ℕ) (walk : PricedWalk) : Type 0 where
+  pub rows : HasRows code walk.route.plan.p walk.route.plan
+  pub lasting : IsLasting code walk.route
+  pub costs : (j : ℕ) → j < SIZES → slice_index walk.costs j ≡ glue_of code (with_places walk.route.plan (from + j))
+  pub small : AreSmall walk.costs
+
+-- the walks with `private` private places and more cost nothing
+abbrev pub IsFreeFrom : List Line → ℕ → ℕ → Type 0
+IsFreeFrom code private from = (p j : ℕ) → private ≤ p → j < SIZES → IsWalkCost code p (from + j) 0
+
+-- the walk, valid, with its glue
+pub record IsWalkPlanned (code : List Line) (p r : ℕ) (found : Planned) : Type 0 where
+  pub walk : IsWalk code p r found.plan
+  pub cost : found.cost ≡ glue_of code found.plan
+  pub valid : IsValidPlan code found.plan
+
+-- the fit over the whole program serves the pressures, or the fits are those of the program, with their costs or without
+abbrev pub IsKeptBy : List Line → Pressure → Kept → Type 0
+IsKeptBy code part (Free fit) = IsFit code Every fit × (fits_test fit part.private part.all ≡ true)
+IsKeptBy code part (Walked fits) = AreMadeOf code fits
+IsKeptBy code part (Costly fits) = AreFitsOf code part.all fits
+
+-- the fits of a context that were kept
+pub record IsKept (code : List Line) (kept : Kept) : Type 0 where
+  pub pressure : Pressure
+  pub exact : IsPressureOf code pressure
+  pub is : IsKeptBy code pressure kept
+
+-- the walk of a context that was kept, if one was
+pub record IsWalkKept (code : List Line) (walk : Option PricedWalk) : Type 0 where
+  pub pressure : Pressure
+  pub exact : IsPressureOf code pressure
+  pub is : IfSome walk (IsPriced code pressure.all)
+
+abbrev pub AreKept : List Program → List Kept → Type 0
+AreKept = AllZip (λ program kept. IsKept program.code kept)
+
+abbrev pub AreWalksKept : List Program → List (Option PricedWalk) → Type 0
+AreWalksKept = AllZip (λ program walk. IsWalkKept program.code walk)
 
 -- what cells cost with p private places and part.all + j in all, as far as there are so many
 abbrev pub AreRowCosts : List Line → Pressure → ℕ → ℕ → List ℕ → Type 0

@@ -1,93 +1,283 @@
-//! The plan of a context for given numbers of places, and what it costs.
+//! The plan of a context for given numbers of places, by the fits and the walk that were kept.
 
-ghost use Rattle.std.specs.Prelude.{ℕ, ◌≡◌, ◌≤◌, None, IfOk, if◌then◌else◌, nat_le};
+ghost use Rattle.std.specs.Prelude.{ℕ, ◌≡◌, ◌+◌, ◌<◌, ◌≤◌, List as Sequence, None, Some, IfOk, IfSome};
+ghost use Rattle.micro_isa.specs.declared.program.Line.{Line as CodeLine};
 ghost use Rattle.flow_graph.specs.Paths.{IsClosedCode};
 ghost use Rattle.liveness.specs.Lives.{IsLiveOf};
 ghost use Rattle.liveness.specs.Pressures.{IsPrivatePressure, IsTotalPressure};
+ghost use Rattle.pressure.specs.Regions.{AreRegionsOf};
 ghost use Rattle.plan.specs.ValidPlans.{IsValidPlan};
-ghost use Rattle.range_colour.specs.PlacedPlans.{IsWholeFit};
-ghost use Rattle.point_walk.specs.Walks.{IsWalk};
-ghost use Rattle.emitted.specs.Words.{glue_of};
-ghost use Rattle.allocate.specs.Cells.{IsCell};
-ghost use Rattle.allocate.specs.Tables.{IsFitted};
+ghost use Rattle.range_colour.specs.PlacedPlans.{IsRegionFit, IsWholeFit};
+ghost use Rattle.range_colour.specs.Regional.{AreFits};
+ghost use Rattle.allocate.specs.Fits.{AreFitsOf, AreMadeOf};
+ghost use Rattle.allocate.specs.Tables.{IsCellPlan, IsPriced, IsRegionCost, IsWalkPlanned};
 
+use crate::fits::{Fits, region_cost};
+use crate::priced::{PricedWalk, serves};
+use budget::SIZES;
 use emit::glue;
-use flow_graph::Flow;
 use liveness::Live;
 use micro_isa::{MOST_FILE, NoMemory, Program};
 use plan::Plan;
-use point_walk::walk;
-use pressure::Regions;
-use range_colour::{by_region, first_fit};
+use point_walk::{Route, walk};
+use range_colour::{fit_plan, region_plan};
 use std::alloc::Global;
 
 /// A plan, and how many glue words it has.
-#[derive(Debug, Drop)]
+#[derive(Drop)]
 pub(crate) struct Planned {
     pub plan: Plan,
     pub cost: u32,
 }
 
-/// The plan with `p` private places and `r` in all: that of the fit over the whole program, which
-/// costs nothing; where it runs out, that of the fit over each region or that of the walk, whichever
-/// has less glue, and of the same glue the first.
+/// The plan with `p` private places and `from + j` in all: that of the fit over the whole program;
+/// where it runs out, that of the fit over each region or that of the walk, whichever has less glue,
+/// and of the same glue the first.
 pub(crate) fn cell(
     alloc: Global,
     program: &Program,
     live: &Live,
+    fits: &Fits,
+    walk: Option<PricedWalk>,
+    from: u32,
+    j: u32,
     p: u32,
-    r: u32,
-) -> Result<Planned, NoMemory>
+) -> Result<Plan, NoMemory>
     requires closed { IsClosedCode program.now.code }
     requires live { IsLiveOf program.now.code live.now }
+    requires fits { AreFitsOf program.now.code from fits.now }
+    requires walk { IfSome walk (IsPriced program.now.code from) }
     requires private { (n : ℕ) × IsPrivatePressure program.now.code n × (n ≤ p) }
-    requires total { (n : ℕ) × IsTotalPressure program.now.code n × (n ≤ r) }
-    requires order { p ≤ r }
-    requires few { r ≤ MOST_FILE }
-    ensures cell { IfOk result (λ found. IsCell program.now.code p r found.cost found.plan) }
-    ensures valid { IfOk result (λ found. IsValidPlan program.now.code found.plan) }
+    requires total { (n : ℕ) × IsTotalPressure program.now.code n × (n ≤ from + j) }
+    requires within { j < SIZES }
+    requires order { p ≤ from + j }
+    requires few { from + j ≤ MOST_FILE }
+    ensures cell { IfOk result (IsCellPlan program.now.code p (from + j)) }
+    ensures valid { IfOk result (IsValidPlan program.now.code) }
 {
-    match first_fit(alloc, program, live, p, r)? {
-        Some(plan) => Ok(Planned { plan, cost: 0 }),
-        None => moved(alloc, program, live, p, r),
+    if fits.whole.fits(p, from + j) {
+        let code = program.code.as_slice();
+        return fit_plan(alloc, code, live, &fits.whole, p, from + j);
     }
+    moved(alloc, program, live, fits, walk, from, j, p)
 }
 
-/// The same where the fit over the whole program runs out.
-fn moved(alloc: Global, program: &Program, live: &Live, p: u32, r: u32) -> Result<Planned, NoMemory>
+/// The same plan, where it is not known what the fits over the regions cost.
+pub(crate) fn unpriced_cell(
+    alloc: Global,
+    program: &Program,
+    live: &Live,
+    fits: &Fits,
+    walk: Option<PricedWalk>,
+    from: u32,
+    j: u32,
+    p: u32,
+) -> Result<Plan, NoMemory>
     requires closed { IsClosedCode program.now.code }
     requires live { IsLiveOf program.now.code live.now }
+    requires fits { AreMadeOf program.now.code fits.now }
+    requires walk { IfSome walk (IsPriced program.now.code from) }
     requires private { (n : ℕ) × IsPrivatePressure program.now.code n × (n ≤ p) }
-    requires total { (n : ℕ) × IsTotalPressure program.now.code n × (n ≤ r) }
+    requires total { (n : ℕ) × IsTotalPressure program.now.code n × (n ≤ from + j) }
+    requires within { j < SIZES }
+    requires order { p ≤ from + j }
+    requires few { from + j ≤ MOST_FILE }
+    ensures cell { IfOk result (IsCellPlan program.now.code p (from + j)) }
+    ensures valid { IfOk result (IsValidPlan program.now.code) }
+{
+    if fits.whole.fits(p, from + j) {
+        let code = program.code.as_slice();
+        return fit_plan(alloc, code, live, &fits.whole, p, from + j);
+    }
+    let walked = walked(alloc, program, live, walk, from, j, p)?;
+    lesser(alloc, program, live, fits, walked, p, from + j)
+}
+
+/// The plan by the fit over each region, if there is one, unless the walk costs less.
+fn lesser(
+    alloc: Global,
+    program: &Program,
+    live: &Live,
+    fits: &Fits,
+    walked: Planned,
+    p: u32,
+    r: u32,
+) -> Result<Plan, NoMemory>
+    requires closed { IsClosedCode program.now.code }
+    requires live { IsLiveOf program.now.code live.now }
+    requires fits { AreMadeOf program.now.code fits.now }
     requires order { p ≤ r }
     requires few { r ≤ MOST_FILE }
     requires out { IsWholeFit program.now.code p r None }
-    ensures cell { IfOk result (λ found. IsCell program.now.code p r found.cost found.plan) }
-    ensures valid { IfOk result (λ found. IsValidPlan program.now.code found.plan) }
+    requires walk { IsWalkPlanned program.now.code p r walked }
+    ensures cell { IfOk result (IsCellPlan program.now.code p r) }
+    ensures valid { IfOk result (IsValidPlan program.now.code) }
 {
-    let walked = walked(alloc, program, live, p, r)?;
-    match fitted(alloc, program, live, p, r)? {
-        Some(fitted) => Ok(lesser(fitted, walked)),
-        None => Ok(walked),
+    let code = program.code.as_slice();
+    let regions = fits.regions.as_slice();
+    match region_plan(alloc, code, live, &fits.division, regions, p, r)? {
+        Some(plan) => lesser_of(alloc, program, plan, walked, p, r),
+        None => Ok(walked.plan),
     }
 }
 
-/// The plan by the fit over each region where it costs no more than the walk, else the walk.
-fn lesser(fitted: Planned, walked: Planned) -> Planned
-    ensures { result ≡ (if nat_le fitted.cost walked.cost then fitted else walked) }
+/// The lesser plan, and of the same glue the first.
+fn lesser_of(
+    alloc: Global,
+    program: &Program,
+    fitted: Plan,
+    walked: Planned,
+    p: u32,
+    r: u32,
+) -> Result<Plan, NoMemory>
+    requires closed { IsClosedCode program.now.code }
+    requires out { IsWholeFit program.now.code p r None }
+    requires fit { IsRegionFit program.now.code p r (Some fitted) }
+    requires fitted { IsValidPlan program.now.code fitted }
+    requires walk { IsWalkPlanned program.now.code p r walked }
+    ensures cell { IfOk result (IsCellPlan program.now.code p r) }
+    ensures valid { IfOk result (IsValidPlan program.now.code) }
 {
-    if fitted.cost <= walked.cost {
-        fitted
+    let cost = glue(alloc, program, &fitted)?;
+    if cost <= walked.cost {
+        Ok(fitted)
     } else {
-        walked
+        Ok(walked.plan)
     }
 }
 
-/// The walk, and its glue.
+/// The same as a cell where the fit over the whole program runs out.
+fn moved(
+    alloc: Global,
+    program: &Program,
+    live: &Live,
+    fits: &Fits,
+    walk: Option<PricedWalk>,
+    from: u32,
+    j: u32,
+    p: u32,
+) -> Result<Plan, NoMemory>
+    requires closed { IsClosedCode program.now.code }
+    requires live { IsLiveOf program.now.code live.now }
+    requires fits { AreFitsOf program.now.code from fits.now }
+    requires walk { IfSome walk (IsPriced program.now.code from) }
+    requires private { (n : ℕ) × IsPrivatePressure program.now.code n × (n ≤ p) }
+    requires total { (n : ℕ) × IsTotalPressure program.now.code n × (n ≤ from + j) }
+    requires within { j < SIZES }
+    requires order { p ≤ from + j }
+    requires few { from + j ≤ MOST_FILE }
+    requires out { IsWholeFit program.now.code p (from + j) None }
+    ensures cell { IfOk result (IsCellPlan program.now.code p (from + j)) }
+    ensures valid { IfOk result (IsValidPlan program.now.code) }
+{
+    let walked = walked(alloc, program, live, walk, from, j, p)?;
+    match region_cost(fits.regions.as_slice(), fits.costs, from + j, j, p) {
+        Some(cost) => beside_walk(alloc, program, live, fits, walked, cost, p, from + j),
+        None => Ok(walked.plan),
+    }
+}
+
+/// The plan by the fit over each region, which costs so much, unless the walk costs less.
+fn beside_walk(
+    alloc: Global,
+    program: &Program,
+    live: &Live,
+    fits: &Fits,
+    walked: Planned,
+    cost: u32,
+    p: u32,
+    r: u32,
+) -> Result<Plan, NoMemory>
+    requires closed { IsClosedCode program.now.code }
+    requires live { IsLiveOf program.now.code live.now }
+    requires division { AreRegionsOf program.now.code fits.now.division }
+    requires parts { AreFits program.now.code fits.now.division fits.now.regions }
+    requires order { p ≤ r }
+    requires few { r ≤ MOST_FILE }
+    requires out { IsWholeFit program.now.code p r None }
+    requires region { IsRegionCost program.now.code p r (Some cost) }
+    requires walk { IsWalkPlanned program.now.code p r walked }
+    ensures cell { IfOk result (IsCellPlan program.now.code p r) }
+    ensures valid { IfOk result (IsValidPlan program.now.code) }
+{
+    if walked.cost < cost {
+        return Ok(walked.plan);
+    }
+    let code = program.code.as_slice();
+    let regions = fits.regions.as_slice();
+    match region_plan(alloc, code, live, &fits.division, regions, p, r)? {
+        Some(plan) => Ok(plan),
+        None => Ok(walked.plan),
+    }
+}
+
+/// The walk with `p` private places and `from + j` in all, and its glue: by the rows that were kept,
+/// if they serve.
 fn walked(
     alloc: Global,
     program: &Program,
     live: &Live,
+    kept: Option<PricedWalk>,
+    from: u32,
+    j: u32,
+    p: u32,
+) -> Result<Planned, NoMemory>
+    requires closed { IsClosedCode program.now.code }
+    requires live { IsLiveOf program.now.code live.now }
+    requires kept { IfSome kept (IsPriced program.now.code from) }
+    requires private { (n : ℕ) × IsPrivatePressure program.now.code n × (n ≤ p) }
+    requires total { (n : ℕ) × IsTotalPressure program.now.code n × (n ≤ from + j) }
+    requires within { j < SIZES }
+    requires order { p ≤ from + j }
+    requires few { from + j ≤ MOST_FILE }
+    ensures { IfOk result (IsWalkPlanned program.now.code p (from + j)) }
+{
+    match served(kept, from, j, p) {
+        Some(planned) => Ok(planned),
+        None => walked_anew(alloc, program, live, p, from + j),
+    }
+}
+
+/// The walk by the rows that were kept, if they serve.
+fn served(kept: Option<PricedWalk>, from: u32, j: u32, p: u32) -> Option<Planned>
+    requires within { j < SIZES }
+    requires few { from + j ≤ MOST_FILE }
+    ensures { (code : Sequence CodeLine) → IsClosedCode code → ((n : ℕ) × IsPrivatePressure code n × (n ≤ p)) → ((n : ℕ) × IsTotalPressure code n × (n ≤ from + j)) → p ≤ from + j
+        → IfSome kept (IsPriced code from) → IfSome result (IsWalkPlanned code p (from + j)) }
+{
+    match kept {
+        Some(walk) => served_by(walk, from, j, p),
+        None => None,
+    }
+}
+
+fn served_by(walk: PricedWalk, from: u32, j: u32, p: u32) -> Option<Planned>
+    requires within { j < SIZES }
+    requires few { from + j ≤ MOST_FILE }
+    ensures { (code : Sequence CodeLine) → IsClosedCode code → ((n : ℕ) × IsPrivatePressure code n × (n ≤ p)) → ((n : ℕ) × IsTotalPressure code n × (n ≤ from + j)) → p ≤ from + j
+        → IsPriced code from walk → IfSome result (IsWalkPlanned code p (from + j)) }
+{
+    if !serves(&walk, p) {
+        return None;
+    }
+    let PricedWalk { route, costs } = walk;
+    let Route { plan, .. } = route;
+    let Plan { rows, .. } = plan;
+    Some(Planned {
+        plan: Plan {
+            p,
+            r: from + j,
+            rows,
+        },
+        cost: costs[j as usize],
+    })
+}
+
+/// The walk, made for these places, and its glue.
+fn walked_anew(
+    alloc: Global,
+    program: &Program,
+    live: &Live,
     p: u32,
     r: u32,
 ) -> Result<Planned, NoMemory>
@@ -97,36 +287,9 @@ fn walked(
     requires total { (n : ℕ) × IsTotalPressure program.now.code n × (n ≤ r) }
     requires order { p ≤ r }
     requires few { r ≤ MOST_FILE }
-    ensures walk { IfOk result (λ found. IsWalk program.now.code p r found.plan) }
-    ensures cost { IfOk result (λ found. found.cost ≡ glue_of program.now.code found.plan) }
-    ensures valid { IfOk result (λ found. IsValidPlan program.now.code found.plan) }
+    ensures { IfOk result (IsWalkPlanned program.now.code p r) }
 {
     let plan = walk(alloc, program, live, p, r)?;
-    let cost = glue(alloc, program, live, &plan)?;
+    let cost = glue(alloc, program, &plan)?;
     Ok(Planned { plan, cost })
-}
-
-/// The fit over each region, and its glue, unless it runs out.
-fn fitted(
-    alloc: Global,
-    program: &Program,
-    live: &Live,
-    p: u32,
-    r: u32,
-) -> Result<Option<Planned>, NoMemory>
-    requires closed { IsClosedCode program.now.code }
-    requires live { IsLiveOf program.now.code live.now }
-    requires order { p ≤ r }
-    requires few { r ≤ MOST_FILE }
-    ensures { IfOk result (IsFitted program.now.code p r) }
-{
-    let flow = Flow::of(alloc, program)?;
-    let regions = Regions::of(alloc, program, &flow)?;
-    match by_region(alloc, program, live, &regions, p, r)? {
-        Some(plan) => {
-            let cost = glue(alloc, program, live, &plan)?;
-            Ok(Some(Planned { plan, cost }))
-        }
-        None => Ok(None),
-    }
 }

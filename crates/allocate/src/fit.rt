@@ -9,14 +9,16 @@ ghost use Rattle.budget.specs.Best.{IsBest};
 ghost use Rattle.emitted.specs.Emitted.{IsEmitted};
 ghost use Rattle.allocate.specs.Needs.{AreLives, ArePressures};
 ghost use Rattle.allocate.specs.Preferred.{IsPreferred};
-ghost use Rattle.allocate.specs.Tables.{Refused};
+ghost use Rattle.allocate.specs.Tables.{AreKept, AreWalksKept, Refused};
 ghost use Rattle.allocate.specs.Allocations.{IsAllocation, HasOneAllocation, IsEven, IsStill, TellsFault};
 
 use crate::allocation::{AllocFault, Allocation};
 use crate::analysis::{lives_of, pressures_of};
+use crate::kept::Kept;
 use crate::planning::plans_of;
+use crate::priced::PricedWalk;
 use crate::sizing::own_total;
-use crate::table::tables_of;
+use crate::table::{Tables, tables_of};
 use budget::{Budget, BudgetFault, CostTable, balance};
 use emit::emit;
 use liveness::Live;
@@ -99,21 +101,31 @@ fn fitting(
     ensures emitted { IfOk result (λ a. IsEmitted bundle.now a.plans a.budget a.image) }
     ensures fault { IfErr result (TellsFault bundle.now) }
 {
-    let budget = preferred(alloc, bundle, analysis)?;
-    match allocated(alloc, bundle, analysis, need, budget) {
+    let found = preferred(alloc, bundle, analysis)?;
+    match allocated(alloc, bundle, analysis, need, found) {
         Ok(allocation) => Ok(allocation),
         Err(NoMemory) => Err(AllocFault::NoMemory),
     }
 }
 
+/// A budget, and what was kept of each context.
+#[derive(Drop)]
+struct Chosen {
+    budget: Budget,
+    keeps: List<Kept>,
+    walks: Vec<Option<PricedWalk>>,
+}
+
 /// The budget that is preferred, by what registers cost each context.
-fn preferred(alloc: Global, bundle: &Bundle, analysis: &Analysis) -> Result<Budget, AllocFault>
+fn preferred(alloc: Global, bundle: &Bundle, analysis: &Analysis) -> Result<Chosen, AllocFault>
     requires formed { IsFormedBundle bundle.now }
     requires lives { AreLives bundle.now.programs analysis.now.lives }
     requires pressures { ArePressures bundle.now.programs analysis.now.parts }
     requires parts { All IsPart analysis.now.parts }
     requires fits { need_of analysis.now.parts ≤ bundle.now.file }
-    ensures preferred { IfOk result (IsPreferred bundle.now analysis.now.parts) }
+    ensures preferred { IfOk result (λ found. IsPreferred bundle.now analysis.now.parts found.budget) }
+    ensures keeps { IfOk result (λ found. AreKept bundle.now.programs found.keeps) }
+    ensures walks { IfOk result (λ found. AreWalksKept bundle.now.programs found.walks.items) }
     ensures fault { IfErr result (TellsFault bundle.now) }
 {
     let programs = bundle.programs.as_slice();
@@ -121,9 +133,33 @@ fn preferred(alloc: Global, bundle: &Bundle, analysis: &Analysis) -> Result<Budg
     let parts = analysis.parts.as_slice();
     let spare = bundle.file - own_total(parts);
     match tables_of(alloc, programs, lives, parts, spare) {
-        Ok(tables) => balanced(alloc, tables.as_slice(), bundle.file),
+        Ok(made) => divided(alloc, made, bundle.file),
         Err(NoMemory) => Err(AllocFault::NoMemory),
     }
+}
+
+/// The budget that is preferred for these tables, and what was kept as they were made.
+fn divided(alloc: Global, made: Tables, file: u32) -> Result<Chosen, AllocFault>
+    requires some { 0 < length made.tables }
+    requires few { length made.tables ≤ MOST_CONTEXTS }
+    requires tables { All IsCostTable made.tables }
+    requires file { file ≤ MOST_FILE }
+    ensures best { IfOk result (λ found. IsBest made.tables file found.budget) }
+    ensures keeps { IfOk result (λ found. found.keeps ≡ made.keeps) }
+    ensures walks { IfOk result (λ found. found.walks.items ≡ made.walks.items) }
+    ensures fault { IfErr result (Refused made.tables file) }
+{
+    let Tables {
+        tables,
+        keeps,
+        walks,
+    } = made;
+    let budget = balanced(alloc, tables.as_slice(), file)?;
+    Ok(Chosen {
+        budget,
+        keeps,
+        walks,
+    })
 }
 
 /// The budget that is preferred for these tables.
@@ -148,7 +184,7 @@ fn allocated(
     bundle: &Bundle,
     analysis: &Analysis,
     need: u32,
-    budget: Budget,
+    found: Chosen,
 ) -> Result<Allocation, NoMemory>
     requires formed { IsFormedBundle bundle.now }
     requires lives { AreLives bundle.now.programs analysis.now.lives }
@@ -156,16 +192,33 @@ fn allocated(
     requires parts { All IsPart analysis.now.parts }
     requires need { need ≡ need_of analysis.now.parts }
     requires fits { need ≤ bundle.now.file }
-    requires preferred { IsPreferred bundle.now analysis.now.parts budget }
+    requires preferred { IsPreferred bundle.now analysis.now.parts found.budget }
+    requires keeps { AreKept bundle.now.programs found.keeps }
+    requires walks { AreWalksKept bundle.now.programs found.walks.items }
     ensures allocation { IfOk result (IsAllocation bundle.now) }
     ensures emitted { IfOk result (λ a. IsEmitted bundle.now a.plans a.budget a.image) }
 {
     let programs = bundle.programs.as_slice();
     let lives = analysis.lives.as_slice();
     let parts = analysis.parts.as_slice();
+    let Chosen {
+        budget,
+        keeps,
+        mut walks,
+    } = found;
     let sizes = budget.private.as_slice();
-    let plans = plans_of(alloc, programs, lives, parts, sizes, budget.shared)?;
-    let image = emit(alloc, bundle, lives, plans.as_slice(), &budget)?;
+    let kept = keeps.as_slice();
+    let plans = plans_of(
+        alloc,
+        programs,
+        lives,
+        parts,
+        sizes,
+        budget.shared,
+        kept,
+        &mut walks,
+    )?;
+    let image = emit(alloc, bundle, plans.as_slice(), &budget)?;
     let glue = budget.cost;
     Ok(Allocation {
         image,

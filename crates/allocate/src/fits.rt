@@ -8,7 +8,7 @@ ghost use Rattle.pressure.specs.Regions.{AreRegionsOf};
 ghost use Rattle.range_colour.specs.Fits.{IsFit};
 ghost use Rattle.range_colour.specs.Groups.{Every};
 ghost use Rattle.range_colour.specs.Regional.{AreFits};
-ghost use Rattle.allocate.specs.Fits.{AreFitsOf, AreRegionCosts, TellsRegions};
+ghost use Rattle.allocate.specs.Fits.{AreFitsOf, AreMadeOf, AreRegionCosts, TellsRegions};
 ghost use Rattle.allocate.specs.Tables.{IsFitCost, IsRegionCost};
 
 use budget::{SIZE_COUNT, SIZES};
@@ -20,36 +20,64 @@ use pressure::Regions;
 use range_colour::{Fit, all_fit, region_fits, region_plan};
 use std::alloc::Global;
 
-/// The fit over the whole program and those over its regions, and the glue of the latter by the
+/// The fit over the whole program, its regions and the fits over them, and the glue of these by the
 /// number of places in all; none where the greatest file is too small for them.
 #[derive(Debug, Drop)]
 pub(crate) struct Fits {
     pub whole: Fit,
+    pub division: Regions,
     pub regions: List<Fit>,
     pub costs: Option<[u32; SIZE_COUNT]>,
 }
 
-/// The fits of a program, of which that over the whole of it is given. Costs begin with those for
-/// `from` places in all.
+/// The fits of a program, of which that over the whole of it is given. What those over the regions
+/// cost is not told yet.
 pub(crate) fn fits_of(
     alloc: Global,
     program: &Program,
     live: &Live,
-    from: u32,
     whole: Fit,
 ) -> Result<Fits, NoMemory>
     requires closed { IsClosedCode program.now.code }
     requires live { IsLiveOf program.now.code live.now }
-    requires small { from ≤ MOST_FILE }
     requires whole { IsFit program.now.code Every whole }
-    ensures { IfOk result (AreFitsOf program.now.code from) }
+    ensures { IfOk result (AreMadeOf program.now.code) }
 {
     let flow = Flow::of(alloc, program)?;
-    let all = Regions::of(alloc, program, &flow)?;
-    let regions = region_fits(alloc, program.code.as_slice(), live, &all)?;
-    let costs = region_costs(alloc, program, live, &all, regions.as_slice(), from)?;
+    let division = Regions::of(alloc, program, &flow)?;
+    let regions = region_fits(alloc, program.code.as_slice(), live, &division)?;
     Ok(Fits {
         whole,
+        division,
+        regions,
+        costs: None,
+    })
+}
+
+/// The same fits, with what those over the regions cost, from `from` places in all on.
+pub(crate) fn priced_fits(
+    alloc: Global,
+    program: &Program,
+    live: &Live,
+    from: u32,
+    fits: Fits,
+) -> Result<Fits, NoMemory>
+    requires closed { IsClosedCode program.now.code }
+    requires live { IsLiveOf program.now.code live.now }
+    requires small { from ≤ MOST_FILE }
+    requires made { AreMadeOf program.now.code fits }
+    ensures { IfOk result (AreFitsOf program.now.code from) }
+{
+    let Fits {
+        whole,
+        division,
+        regions,
+        ..
+    } = fits;
+    let costs = region_costs(alloc, program, live, &division, regions.as_slice(), from)?;
+    Ok(Fits {
+        whole,
+        division,
         regions,
         costs,
     })
@@ -95,7 +123,7 @@ pub(crate) fn fit_cost(fits: &Fits, from: u32, j: u32, p: u32) -> Option<u32>
 }
 
 /// What the plan by the fits over the regions costs, if there is one.
-fn region_cost(
+pub(crate) fn region_cost(
     fits: &[Fit],
     costs: Option<[u32; SIZE_COUNT]>,
     r: u32,

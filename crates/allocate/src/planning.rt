@@ -12,17 +12,20 @@ ghost use Rattle.allocate.specs.Needs.{AreLives, ArePressures};
 ghost use Rattle.allocate.specs.Items.{AreClosed};
 ghost use Rattle.allocate.specs.Cells.{IsCellOf};
 ghost use Rattle.allocate.specs.Preferred.{demands_by};
-ghost use Rattle.allocate.specs.Tables.{AreChosen, IsChosenAt};
+ghost use Rattle.allocate.specs.Tables.{AreChosen, AreKept, AreWalksKept, IsChosenAt, IsKept, IsWalkKept};
 
-use crate::cell::{Planned, cell};
+use crate::cell::{cell, unpriced_cell};
+use crate::kept::Kept;
+use crate::priced::PricedWalk;
 use budget::SIZES;
 use liveness::Live;
 use micro_isa::{List, MOST_FILE, NoMemory, Program};
 use plan::Plan;
 use pressure::Pressure;
+use range_colour::fit_plan;
 use std::alloc::Global;
 
-/// The plan of each program for its own size beside the shared registers.
+/// The plan of each program for its own size beside the shared registers, by what was kept of each.
 pub(crate) fn plans_of(
     alloc: Global,
     programs: &[Program],
@@ -30,17 +33,23 @@ pub(crate) fn plans_of(
     parts: &[Pressure],
     sizes: &[u32],
     shared: u32,
+    keeps: &[Kept],
+    walks: &mut [Option<PricedWalk>],
 ) -> Result<List<Plan>, NoMemory>
     requires closed { AreClosed programs.now }
     requires lives { AreLives programs.now lives.now }
     requires parts { ArePressures programs.now parts.now }
     requires ordered { All IsPart parts.now }
     requires fits { SizesFit (demands_by parts.now) MOST_FILE sizes.now shared }
+    requires keeps { AreKept programs.now keeps.now }
+    requires walks { AreWalksKept programs.now walks.old }
     ensures { IfOk result (AreChosen programs.now sizes.now shared (length programs.now)) }
 {
     let mut plans = List::new(alloc);
     for c in 0..programs.len() {
-        let plan = planned(alloc, programs, lives, parts, sizes, shared, c)?;
+        let plan = planned(
+            alloc, programs, lives, parts, sizes, shared, keeps, walks, c,
+        )?;
         push_plan(&mut plans, plan)?;
     }
     Ok(plans)
@@ -53,6 +62,8 @@ fn planned(
     parts: &[Pressure],
     sizes: &[u32],
     shared: u32,
+    keeps: &[Kept],
+    walks: &mut [Option<PricedWalk>],
     c: usize,
 ) -> Result<Plan, NoMemory>
     requires closed { AreClosed programs.now }
@@ -60,10 +71,23 @@ fn planned(
     requires parts { ArePressures programs.now parts.now }
     requires ordered { All IsPart parts.now }
     requires fits { SizesFit (demands_by parts.now) MOST_FILE sizes.now shared }
+    requires keeps { AreKept programs.now keeps.now }
+    requires walks { AreWalksKept programs.now walks.old }
     requires within { c < length programs.now }
-    ensures { IfOk result (IsChosenAt programs.now sizes.now shared c) }
+    ensures chosen { IfOk result (IsChosenAt programs.now sizes.now shared c) }
+    ensures walks { AreWalksKept programs.now walks.new }
 {
-    plan_of(alloc, &programs[c], &lives[c], parts[c], sizes[c], shared)
+    let walk = walks[c].take();
+    plan_of(
+        alloc,
+        &programs[c],
+        &lives[c],
+        parts[c],
+        sizes[c],
+        shared,
+        &keeps[c],
+        walk,
+    )
 }
 
 /// The plan of a program with these pressures for its own size beside the shared registers.
@@ -74,6 +98,8 @@ fn plan_of(
     part: Pressure,
     size: u32,
     shared: u32,
+    kept: &Kept,
+    walk: Option<PricedWalk>,
 ) -> Result<Plan, NoMemory>
     requires closed { IsClosedCode program.now.code }
     requires live { IsLiveOf program.now.code live.now }
@@ -82,22 +108,31 @@ fn plan_of(
     requires own { part.private ≤ size }
     requires whole { part.all ≤ size + shared }
     requires small { size + shared ≤ MOST_FILE }
+    requires kept { IsKept program.now.code kept.now }
+    requires walk { IsWalkKept program.now.code walk }
     ensures chosen { IfOk result (λ plan. (cost : ℕ) × IsCellOf program.now.code size shared cost plan) }
     ensures valid { IfOk result (λ plan. IsValidPlan program.now.code plan) }
 {
-    let p = places(part.private, size);
-    let r = places(part.all, size + shared);
-    let Planned { plan, .. } = cell(alloc, program, live, p, r)?;
-    Ok(plan)
+    let p = part.private + more(part.private, size);
+    let j = more(part.all, size + shared);
+    match kept {
+        Kept::Free(fit) => {
+            let code = program.code.as_slice();
+            fit_plan(alloc, code, live, fit, p, part.all + j)
+        }
+        Kept::Walked(fits) => { unpriced_cell(alloc, program, live, fits, walk, part.all, j, p) }
+        Kept::Costly(fits) => cell(alloc, program, live, fits, walk, part.all, j, p),
+    }
 }
 
-/// The places that are used of `size`: at most seven more than are needed.
-fn places(least: u32, size: u32) -> u32
+/// How many of `size` places are used beyond the least: seven at most.
+fn more(least: u32, size: u32) -> u32
     requires order { least ≤ size }
-    ensures value { result ≡ least + clipped size least }
-    ensures few { result ≤ size }
+    ensures value { result ≡ clipped size least }
+    ensures within { result < SIZES }
+    ensures few { least + result ≤ size }
 {
-    least + (SIZES - 1).min(size - least)
+    (SIZES - 1).min(size - least)
 }
 
 fn push_plan(plans: &mut List<Plan>, plan: Plan) -> Result<(), NoMemory>

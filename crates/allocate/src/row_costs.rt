@@ -1,24 +1,23 @@
 //! What the cells of a context cost that have one number of private places.
 
-ghost use Rattle.std.specs.Prelude.{ℕ, ◌≡◌, ◌+◌, ◌<◌, ◌≤◌, List as Sequence, Some, IfOk, false, true};
+ghost use Rattle.std.specs.Prelude.{ℕ, ◌≡◌, ◌+◌, ◌<◌, ◌≤◌, List as Sequence, Some, IfOk, IfSome, false, true};
 ghost use Rattle.micro_isa.specs.declared.program.Line.{Line as CodeLine};
 ghost use Rattle.flow_graph.specs.Paths.{IsClosedCode};
 ghost use Rattle.liveness.specs.Lives.{IsLiveOf};
 ghost use Rattle.pressure.specs.Pressures.{IsPressureOf};
 ghost use Rattle.allocate.specs.Fits.{AreFitsOf};
-ghost use Rattle.allocate.specs.Tables.{AreRowCosts, AreSmall, AreWalkCosts, Costs, IsBeyond, IsWalkCost, lesser_cost};
+ghost use Rattle.allocate.specs.Tables.{AreRowCosts, AreSmall, AreWalkCosts, Costs, IsPriced, IsWalkCost, lesser_cost};
 
 use crate::fits::{Fits, fit_cost};
+use crate::priced::{PricedWalk, costs_with};
 use budget::{MOST_COST, SIZE_COUNT, SIZES};
-use emit::glues;
 use liveness::Live;
 use micro_isa::{MOST_FILE, NoMemory, Program};
-use point_walk::walk;
 use pressure::Pressure;
 use std::alloc::Global;
 
 /// What the cells with `p` private places cost, for each number of places in all from `part.all` on
-/// and up to `most`. The walk is made only where some cell may need it.
+/// and up to `most`. The walk is made only where some cell may need it; `walk` keeps the last one.
 pub(crate) fn row_costs(
     alloc: Global,
     program: &Program,
@@ -27,84 +26,25 @@ pub(crate) fn row_costs(
     p: u32,
     most: u32,
     fits: &Fits,
-    beyond: &mut Option<[u32; SIZE_COUNT]>,
+    walk: &mut Option<PricedWalk>,
 ) -> Result<[u32; SIZE_COUNT], NoMemory>
     requires closed { IsClosedCode program.now.code }
     requires live { IsLiveOf program.now.code live.now }
     requires part { IsPressureOf program.now.code part }
-    requires ordered { part.private ≤ part.all }
     requires private { part.private ≤ p }
     requires all { part.all ≤ MOST_FILE }
     requires most { most ≤ MOST_FILE }
     requires fits { AreFitsOf program.now.code part.all fits.now }
-    requires beyond { IsBeyond program.now.code part.all beyond.old }
+    requires walk { IfSome walk.old (IsPriced program.now.code part.all) }
     ensures costs { IfOk result (AreRowCosts program.now.code part p most) }
     ensures small { IfOk result AreSmall }
-    ensures beyond { IsBeyond program.now.code part.all beyond.new }
+    ensures walk { IfSome walk.new (IsPriced program.now.code part.all) }
 {
     if are_free(fits, part, p, most) {
         return Ok([0; SIZE_COUNT]);
     }
-    let walked = costs_with(alloc, program, live, part, p, most, beyond)?;
+    let walked = costs_with(alloc, program, live, part, p, most, walk)?;
     Ok(lesser_costs(fits, part, p, most, &walked))
-}
-
-/// What the walk costs with `p` private places. `beyond` keeps the costs for `part.all` of them or
-/// more.
-fn costs_with(
-    alloc: Global,
-    program: &Program,
-    live: &Live,
-    part: Pressure,
-    p: u32,
-    most: u32,
-    beyond: &mut Option<[u32; SIZE_COUNT]>,
-) -> Result<[u32; SIZE_COUNT], NoMemory>
-    requires closed { IsClosedCode program.now.code }
-    requires live { IsLiveOf program.now.code live.now }
-    requires part { IsPressureOf program.now.code part }
-    requires ordered { part.private ≤ part.all }
-    requires private { part.private ≤ p }
-    requires order { p ≤ most }
-    requires all { part.all ≤ most }
-    requires few { most ≤ MOST_FILE }
-    requires beyond { IsBeyond program.now.code part.all beyond.old }
-    ensures costs { IfOk result (AreWalkCosts program.now.code p part.all) }
-    ensures small { IfOk result AreSmall }
-    ensures beyond { IsBeyond program.now.code part.all beyond.new }
-{
-    if p < part.all {
-        return walk_costs(alloc, program, live, part, p, most);
-    }
-    costs_beyond(alloc, program, live, part, most, beyond)
-}
-
-/// What the walk costs with `part.all` private places or more: it is made once, since its places
-/// are all below that. `beyond` keeps the costs.
-fn costs_beyond(
-    alloc: Global,
-    program: &Program,
-    live: &Live,
-    part: Pressure,
-    most: u32,
-    beyond: &mut Option<[u32; SIZE_COUNT]>,
-) -> Result<[u32; SIZE_COUNT], NoMemory>
-    requires closed { IsClosedCode program.now.code }
-    requires live { IsLiveOf program.now.code live.now }
-    requires part { IsPressureOf program.now.code part }
-    requires ordered { part.private ≤ part.all }
-    requires all { part.all ≤ most }
-    requires few { most ≤ MOST_FILE }
-    requires beyond { IsBeyond program.now.code part.all beyond.old }
-    ensures costs { IfOk result (λ costs. IsBeyond program.now.code part.all (Some costs)) }
-    ensures beyond { IsBeyond program.now.code part.all beyond.new }
-{
-    if let Some(costs) = *beyond {
-        return Ok(costs);
-    }
-    let costs = walk_costs(alloc, program, live, part, part.all, most)?;
-    *beyond = Some(costs);
-    Ok(costs)
 }
 
 /// Whether each of these cells costs nothing by a fit.
@@ -132,29 +72,6 @@ fn is_free(cost: Option<u32>) -> bool
         Some(cost) => cost == 0,
         None => false,
     }
-}
-
-/// What the walk costs with `p` private places.
-fn walk_costs(
-    alloc: Global,
-    program: &Program,
-    live: &Live,
-    part: Pressure,
-    p: u32,
-    most: u32,
-) -> Result<[u32; SIZE_COUNT], NoMemory>
-    requires closed { IsClosedCode program.now.code }
-    requires live { IsLiveOf program.now.code live.now }
-    requires part { IsPressureOf program.now.code part }
-    requires private { part.private ≤ p }
-    requires order { p ≤ most }
-    requires all { part.all ≤ most }
-    requires few { most ≤ MOST_FILE }
-    ensures costs { IfOk result (AreWalkCosts program.now.code p part.all) }
-    ensures small { IfOk result AreSmall }
-{
-    let plan = walk(alloc, program, live, p, most)?;
-    glues(alloc, program, &plan, part.all)
 }
 
 /// What the cells cost, where the walk costs so much.

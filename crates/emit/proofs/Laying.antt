@@ -2,6 +2,7 @@
 use Rattle.std.proofs.Common.{◌≡◌, ℕ, suc, ◌+◌, ◌<◌, ◌≤◌, List, [], ◌∷◌, ◌++◌, length, Option, Some, None, Bool, true, false, refl, sym, ap, ◌∙◌, arith, append_assoc, add-one}
 use Rattle.std.specs.Prelude.{slice_get, slice_index, option_map, ◌==◌, if◌then◌else◌}
 use Rattle.std.proofs.lemmas.Option.{get_or_from_slice_get}
+use Rattle.micro_isa.specs.declared.limits.TheConstants.{MOST_FILE}
 use Rattle.micro_isa.specs.declared.instr.Instr.{Instr}
 use Rattle.micro_isa.specs.declared.program.Line.{Line}
 use Rattle.micro_isa.specs.declared.image.PReg.{PReg}
@@ -21,7 +22,7 @@ use Rattle.plan.specs.declared.row.Place.{Place}
 use Rattle.plan.specs.declared.row.Plan.{Plan}
 use Rattle.plan.specs.ValidPlans.{place_in, IsValidPlan}
 use Rattle.micro_isa.specs.Pieces.{pieces}
-use Rattle.emitted.specs.Edges.{row_at, place_or_zero, next_at, edge_steps, steps_to, fall_steps, jump_steps}
+use Rattle.emitted.specs.Edges.{most_edge_steps, row_at, place_or_zero, next_at, edge_steps, steps_to, fall_steps, jump_steps}
 use Rattle.emitted.specs.Words.{reword, address, block_address, target_for, target_from, word_for, word_at, block_words, block_to, block_at}
 use Rattle.emitted.proofs.Rows.{row_valid, listed_below}
 use Rattle.emitted.proofs.Implementing.{single_at}
@@ -30,39 +31,39 @@ use Rattle.emit.specs.Addressed.{firsts}
 
 -- steps and places of a valid plan are small
 
-step_less : (r : ℕ) → r ≤ 128 → (s : Step) → StepWithin r s → StepWithin 128 s
+step_less : (r : ℕ) → r ≤ MOST_FILE → (s : Step) → StepWithin r s → StepWithin MOST_FILE s
 step_less r few (step.Mov to from) h = let a = h.0 in let b = h.1 in (omega arith, omega arith)
 step_less r few (step.Xor to with) h = let a = h.0 in let b = h.1 in (omega arith, omega arith)
 
-steps_less : (r : ℕ) → r ≤ 128 → (ss : List Step) → StepsWithin r ss → StepsWithin 128 ss
+steps_less : (r : ℕ) → r ≤ MOST_FILE → (ss : List Step) → StepsWithin r ss → StepsWithin MOST_FILE ss
 steps_less r few [] h = tt
 steps_less r few (s ∷ ss) h = (step_less r few s h.0, steps_less r few ss h.1)
 
-pub fall_small : (code : List Line) (plan : Plan) (i : ℕ) → IsValidPlan code plan → IsClosedCode code → i < length code → StepsWithin 128 (fall_steps code plan i) × (length (fall_steps code plan i) ≤ 381)
+pub fall_small : (code : List Line) (plan : Plan) (i : ℕ) → IsValidPlan code plan → IsClosedCode code → i < length code → StepsWithin MOST_FILE (fall_steps code plan i) × (length (fall_steps code plan i) ≤ most_edge_steps)
 fall_small code plan i valid closed lt =
     let k = fall_below code plan plan.r (λ q. record { 0 = q }) (λ q n ql nl e. e) (λ q ql. ql) valid closed i lt in
     (steps_less plan.r valid.few (fall_steps code plan i) k.0, k.1)
 
-pub jump_small : (code : List Line) (plan : Plan) (i : ℕ) → IsValidPlan code plan → IsClosedCode code → i < length code → StepsWithin 128 (jump_steps code plan i) × (length (jump_steps code plan i) ≤ 381)
+pub jump_small : (code : List Line) (plan : Plan) (i : ℕ) → IsValidPlan code plan → IsClosedCode code → i < length code → StepsWithin MOST_FILE (jump_steps code plan i) × (length (jump_steps code plan i) ≤ most_edge_steps)
 jump_small code plan i valid closed lt =
     let k = jump_below code plan plan.r (λ q. record { 0 = q }) (λ q n ql nl e. e) (λ q ql. ql) valid closed i lt in
     (steps_less plan.r valid.few (jump_steps code plan i) k.0, k.1)
 
-small_in : (qs : List Place) (r : ℕ) → r ≤ 128 → ((a : ℕ) (q : Place) → slice_get qs a ≡ Some q → q.place < r) → (k : ℕ) → place_in qs k < 128
+small_in : (qs : List Place) (r : ℕ) → r ≤ MOST_FILE → ((a : ℕ) (q : Place) → slice_get qs a ≡ Some q → q.place < r) → (k : ℕ) → place_in qs k < MOST_FILE
 small_in [] r few h k = omega arith
 small_in (q ∷ qs) r few h k = by (small_in qs r few (λ a x e. h (suc a) x e) k) (q.register.0 == k)
   where
-    by : place_in qs k < 128 → (b : Bool) → (if b then q.place else place_in qs k) < 128
+    by : place_in qs k < MOST_FILE → (b : Bool) → (if b then q.place else place_in qs k) < MOST_FILE
     by rest true = let first = h 0 q refl in omega arith
     by rest false = rest
 
-pub places_small : (code : List Line) (plan : Plan) (i : ℕ) → IsValidPlan code plan → i < length code → (k : ℕ) → place_in (row_at plan i).places k < 128
+pub places_small : (code : List Line) (plan : Plan) (i : ℕ) → IsValidPlan code plan → i < length code → (k : ℕ) → place_in (row_at plan i).places k < MOST_FILE
 places_small code plan i valid lt = small_in (row_at plan i).places plan.r valid.few (listed_below code plan valid i lt)
 
-pub write_small : (code : List Line) (plan : Plan) (i : ℕ) → IsValidPlan code plan → i < length code → place_or_zero (row_at plan i).write < 128
+pub write_small : (code : List Line) (plan : Plan) (i : ℕ) → IsValidPlan code plan → i < length code → place_or_zero (row_at plan i).write < MOST_FILE
 write_small code plan i valid lt = by (row_at plan i).write refl
   where
-    by : (o : Option ℕ) → (row_at plan i).write ≡ o → place_or_zero o < 128
+    by : (o : Option ℕ) → (row_at plan i).write ≡ o → place_or_zero o < MOST_FILE
     by None e = omega arith
     by (Some w) e = let below = (row_valid code plan valid i lt).write_in_range w e in let few = valid.few in omega arith
 

@@ -1,18 +1,23 @@
 -- What the costs of edges tell of the glue with more or fewer places.
-use Rattle.std.proofs.Common.{◌≡◌, ℕ, zero, suc, ◌+◌, ◌*◌, ◌<◌, ◌≤◌, List, [], length, Option, Some, None, Bool, true, false, refl, sym, ap, ◌∙◌, arith}
-use Rattle.std.specs.Prelude.{is_some, nat_lt, slice_get, slice_index, ◌||◌, if◌then◌else◌}
+use Rattle.std.proofs.Common.{◌≡◌, ◌≢◌, ℕ, zero, suc, ◌+◌, ◌<◌, ◌≤◌, List, [], ◌∷◌, ◌++◌, length, Option, Some, None, Bool, true, false, refl, sym, ap, ◌∙◌, arith}
+use Rattle.std.specs.Prelude.{is_some, nat_lt, not, slice_get, slice_index, ◌==◌, ◌||◌, if◌then◌else◌}
+use Rattle.std.proofs.lemmas.Bool.{eq-eqb}
 use Rattle.std.proofs.lemmas.Bool.Decides.{nat_tests}
 use Rattle.std.proofs.lemmas.List.{length-map}
 use Rattle.micro_isa.specs.declared.limits.TheConstants.{MOST_FILE}
 use Rattle.micro_isa.specs.declared.program.Line.{Line}
 use Rattle.micro_isa.specs.declared.image.PReg.{PReg}
-use Rattle.edge_moves.specs.MoveSteps.{Pair, is_source, moving, move_steps}
+use Rattle.flow_graph.specs.Paths.{Edge, IsClosedCode}
+use Rattle.edge_moves.specs.declared.step.Step.TheVariants.{Mov}
+use Rattle.edge_moves.specs.MoveSteps.{Pair, is_source, first_free, without, turn_at, moving, steps_from, move_steps}
 use Rattle.edge_moves.specs.ParallelMove.{IsFree, is_target}
+use Rattle.edge_moves.specs.Remaining.{NoneStay}
 use Rattle.edge_moves.specs.Costs.{most_steps}
+use Rattle.edge_moves.proofs.Lists.{length-moving, stay-moving}
 use Rattle.plan.specs.declared.row.Place.{Place}
 use Rattle.plan.specs.declared.row.Plan.{Plan}
 use Rattle.plan.specs.ValidPlans.{IsValidPlan}
-use Rattle.emitted.specs.Edges.{place, row_at, next_at, written_in, pair_from, pairs_from, free_from, fall_steps, most_edge_steps}
+use Rattle.emitted.specs.Edges.{place, row_at, next_at, pair_from, pairs_from, free_from, fall_steps, most_edge_steps}
 use Rattle.emitted.specs.Words.{block_size}
 use Rattle.emitted.proofs.FewSteps.{few_places}
 use Rattle.emitted.proofs.Places.{free_is}
@@ -20,9 +25,10 @@ use Rattle.emitted.proofs.Rows.{row_valid, listed_below}
 use Rattle.emit.specs.declared.edge_costs.EdgeCosts.{EdgeCosts}
 use Rattle.emit.specs.Addressed.{size_of_block}
 use Rattle.emit.specs.Limits.{most_line_glue}
-use Rattle.emit.specs.Sized.{AreCostsOf, AreCostsTo, AreFew, glue_with, place_or_end, steps_with, with_places}
+use Rattle.emit.specs.Sized.{AreCostsOf, AreCostsTo, AreFew, glue_with, place_or_end, steps_with, takes_nothing, with_places}
 use Rattle.emit.specs.Tables.{AreAfter}
-use Rattle.emit.proofs.Edging.{no_steps, same_pairs}
+use Rattle.emit.proofs.Filling.{empty}
+use Rattle.emit.proofs.Edging.{none_left, no_steps, same_pairs}
 use Rattle.emit.proofs.Sizing.{block_of}
 
 found_above : (pairs : List Pair) (m q end : ℕ) → end ≡ q + m → q ≤ place_or_end end (free_from pairs m q)
@@ -55,10 +61,35 @@ pub nothing_few : AreFew (record { unnamed = 0; with_free = 0; without = 0 })
 nothing_few = record { with_free = omega arith; without = omega arith }
 
 -- what moves nothing costs nothing
-pub nothing_costs : (pairs : List Pair) → moving pairs ≡ [] → AreCostsOf pairs (record { unnamed = 0; with_free = 0; without = 0 })
+pub nothing_costs : (pairs : List Pair) → length (moving pairs) ≡ 0 → AreCostsOf pairs (record { unnamed = 0; with_free = 0; without = 0 })
 nothing_costs pairs none = record {
-  steps = λ r le. either_same (nat_lt 0 r) 0 ∙ sym (ap (λ steps. length steps) (no_steps pairs (free_from pairs r 0) none));
+  steps = λ r le. either_same (nat_lt 0 r) 0 ∙ sym (ap (λ steps. length steps) (no_steps pairs (free_from pairs r 0) (empty (moving pairs) none)));
   few = nothing_few;
+}
+
+-- one register that moves takes one step
+
+unlike : (a b : ℕ) → a ≢ b → (a == b) ≡ false
+unlike a b ne = grind (arith, nat_tests)
+
+single_by : (free : Option PReg) (n : ℕ) (p : Pair) → ((p.0).0 == (p.1).0) ≡ false → length (steps_from free (suc n) (p ∷ [])) ≡ 1
+single_by free n p moves =
+    let first : first_free (p ∷ []) (p ∷ []) ≡ Some p = ap (λ b. if (if b then true else false) then None else Some p) moves in
+    let gone : without (p.1).0 (p ∷ []) ≡ [] = ap (λ b. if not b then p ∷ [] else []) (eq-eqb (p.1).0 (p.1).0 refl) in
+    ap (λ o. length ((turn_at free (p ∷ []) o).steps ++ steps_from free n (turn_at free (p ∷ []) o).left)) first
+    ∙ ap (λ left. length (Mov p.1 p.0 ∷ steps_from free n left)) gone
+    ∙ ap (λ ss. suc (length ss)) (none_left free n)
+
+single_step : (free : Option PReg) (n : ℕ) (left : List Pair) → length left ≡ 1 → 1 ≤ n → NoneStay left → length (steps_from free n left) ≡ 1
+single_step free n [] one le stay = absurd (omega arith)
+single_step free zero (p ∷ rest) one le stay = absurd (omega arith)
+single_step free (suc n) (p ∷ []) one le stay = single_by free n p (unlike (p.0).0 (p.1).0 stay.0)
+single_step free (suc n) (p ∷ q ∷ rest) one le stay = absurd (omega arith)
+
+pub single_costs : (pairs : List Pair) → length (moving pairs) ≡ 1 → AreCostsOf pairs (record { unnamed = 0; with_free = 1; without = 1 })
+single_costs pairs one = record {
+  steps = λ r le. either_same (nat_lt 0 r) 1 ∙ sym (single_step (free_from pairs r 0) (length pairs) (moving pairs) one (let all = length-moving pairs in omega arith) (stay-moving pairs));
+  few = record { with_free = omega arith; without = omega arith };
 }
 
 pub nothing_to : (code : List Line) (plan : Plan) (i : ℕ) → AreCostsTo code plan i None (record { unnamed = 0; with_free = 0; without = 0 })
@@ -94,10 +125,10 @@ few_listed code plan j valid there =
     omega (arith, valid.few)
 
 -- by a table of places, and the next row's places
-pub costs_edge : (code : List Line) (plan : Plan) (i j : ℕ) (table : List ℕ) (next : List Place) (costs : EdgeCosts) → AreAfter code plan i table → next ≡ (row_at plan j).places
-    → AreCostsOf (pairs_from (λ k. slice_index table k) next) costs → AreCostsTo code plan i (Some j) costs
-costs_edge code plan i j table next costs after is are =
-    let same = ap (pairs_from (λ k. slice_index table k)) is ∙ same_pairs code plan i table (row_at plan j).places after in record {
+pub costs_edge : (code : List Line) (plan : Plan) (i j : ℕ) (table : List ℕ) (next : List Place) (costs : EdgeCosts) → IsValidPlan code plan → IsClosedCode code → AreAfter code plan i table → Edge code i j
+    → next ≡ (row_at plan j).places → AreCostsOf (pairs_from (λ k. slice_index table k) next) costs → AreCostsTo code plan i (Some j) costs
+costs_edge code plan i j table next costs valid closed after edge is are =
+    let same = ap (pairs_from (λ k. slice_index table k)) is ∙ same_pairs code plan i j table valid closed after edge in record {
       steps = λ r le. are.steps r le ∙ ap (λ ps. length (move_steps ps (free_from ps r 0))) same;
       few = are.few;
     }
@@ -128,3 +159,10 @@ glue_is code plan i r fall jump le f g =
     let one = f.steps r le in
     let two = block_of code (with_places plan r) i (steps_with jump r) (size_of_block (steps_with jump r)) (g.steps r le) refl in
     omega (arith, one, two)
+
+-- an instruction whose edges take no steps adds nothing
+pub none_added : (fall jump : EdgeCosts) (r : ℕ) → takes_nothing fall ≡ true → takes_nothing jump ≡ true → glue_with fall jump r ≡ 0
+none_added fall jump r f j = λ a. none fall f a + size_of_block (none jump j a)
+  where
+    none : (costs : EdgeCosts) → takes_nothing costs ≡ true → steps_with costs r ≡ 0
+    none costs e = grind (arith, nat_tests)

@@ -1,5 +1,5 @@
 -- Addresses, and how large they are.
-use Rattle.std.proofs.Common.{◌≡◌, ℕ, zero, suc, ◌+◌, ◌*◌, ◌<◌, ◌≤◌, List, [], ◌∷◌, length, refl, ap, ◌∙◌, arith, add-one}
+use Rattle.std.proofs.Common.{◌≡◌, ℕ, ◌+◌, ◌*◌, ◌<◌, ◌≤◌, List, [], ◌∷◌, length, refl, ap, ◌∙◌, arith, add-one}
 use Rattle.micro_isa.specs.declared.program.Line.{Line}
 use Rattle.edge_moves.specs.declared.step.Step.{Step}
 use Rattle.plan.specs.declared.row.Plan.{Plan}

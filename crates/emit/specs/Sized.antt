@@ -1,5 +1,5 @@
 -- The steps of edges, and the glue of a plan, by how many places there are in all.
-use Rattle.std.specs.Prelude.{ℕ, ◌≡◌, ◌+◌, ◌≤◌, List, length, Option, Some, None, nat_lt, if◌then◌else◌}
+use Rattle.std.specs.Prelude.{ℕ, ◌≡◌, ◌+◌, ◌≤◌, List, length, Option, Some, None, nat_lt, Bool, ◌==◌, ◌&&◌, if◌then◌else◌}
 use Rattle.micro_isa.specs.declared.program.Line.{Line}
 use Rattle.micro_isa.specs.declared.image.PReg.{PReg}
 use Rattle.edge_moves.specs.MoveSteps.{Pair, move_steps}
@@ -24,6 +24,10 @@ steps_with costs r = if nat_lt costs.unnamed r then costs.with_free else costs.w
 -- how many glue words an instruction with these edges has
 abbrev pub glue_with : EdgeCosts → EdgeCosts → ℕ → ℕ
 glue_with fall jump r = steps_with fall r + size_of_block (steps_with jump r)
+
+-- there are no steps, with a free place and without
+abbrev pub takes_nothing : EdgeCosts → Bool
+takes_nothing costs = costs.with_free == 0 && costs.without == 0
 
 -- neither number of steps is large
 pub record AreFew (costs : EdgeCosts) : Type 0 where

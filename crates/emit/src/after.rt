@@ -1,9 +1,10 @@
-//! Where each register is after an instruction.
+//! Where each live register is, by the register's number.
 
 ghost use Rattle.std.specs.Prelude.{ℕ, ◌≡◌, ◌<◌, Some, length, slice_get, slice_index};
 ghost use Rattle.flow_graph.specs.Paths.{IsClosedCode, IsSmall};
-ghost use Rattle.plan.specs.ValidPlans.{place_in, IsValidPlan};
-ghost use Rattle.emit.specs.Tables.{AreAfter, AreSmall, place_with};
+ghost use Rattle.plan.specs.ValidPlans.{IsValidPlan};
+ghost use Rattle.emitted.specs.Edges.{row_at};
+ghost use Rattle.emit.specs.Tables.{AreAfter, AreSmall, HasPlaces, place_with};
 
 use crate::rows::{places_at, write_at, written_at};
 use micro_isa::{Line, MOST_REGISTERS, VReg};
@@ -12,26 +13,48 @@ use plan::{Place, Plan};
 /// A place for each register, by the register's number.
 pub(crate) type Places = [u8; MOST_REGISTERS];
 
-/// Where each register is after instruction `i`, where it is live then or written.
+/// The places of row `i`.
+pub(crate) fn places_of_row(plan: &Plan, i: usize) -> Places
+    requires { AreSmall (row_at plan.now i).places }
+    ensures { HasPlaces (row_at plan.now i).places result }
+{
+    let mut table = [0; MOST_REGISTERS];
+    fill(&mut table, places_at(plan.rows.as_slice(), i));
+    table
+}
+
+/// Where each register is after instruction `i`, where it is live then.
 pub(crate) fn places_after(code: &[Line], plan: &Plan, i: usize) -> Places
     requires closed { IsClosedCode code.now }
     requires valid { IsValidPlan code.now plan.now }
     requires within { i < length code.now }
     ensures { AreAfter code.now plan.now i result }
 {
-    let rows = plan.rows.as_slice();
-    let mut table = [0; MOST_REGISTERS];
-    fill(&mut table, places_at(rows, i));
-    put(&mut table, written_at(code, i), write_at(rows, i));
+    let mut table = places_of_row(plan, i);
+    write_place(&mut table, code, plan, i);
     table
 }
 
+/// From the places of row `i` to those after its instruction: writes the place of what it writes.
+pub(crate) fn write_place(table: &mut Places, code: &[Line], plan: &Plan, i: usize)
+    requires closed { IsClosedCode code.now }
+    requires valid { IsValidPlan code.now plan.now }
+    requires within { i < length code.now }
+    requires row { HasPlaces (row_at plan.now i).places table.old }
+    ensures { AreAfter code.now plan.now i table.new }
+{
+    put(
+        table,
+        written_at(code, i),
+        write_at(plan.rows.as_slice(), i),
+    );
+}
+
 #[tactic(auto, using(crate::proofs::Filling::fill_next))]
-/// Writes the listed places into a table of zeros.
-fn fill(table: &mut Places, places: &[Place])
-    requires empty { (k : ℕ) → slice_index table.old k ≡ 0 }
+/// Writes the listed places.
+pub(crate) fn fill(table: &mut Places, places: &[Place])
     requires small { AreSmall places.now }
-    ensures { (k : ℕ) → slice_index table.new k ≡ place_in places.now k }
+    ensures { HasPlaces places.now table.new }
 {
     for i in 0..places.len() {
         let listed = places[places.len() - 1 - i];

@@ -1,17 +1,18 @@
 //! How many glue words a plan has with more or fewer places in all.
 
-ghost use Rattle.std.specs.Prelude.{ℕ, ◌≡◌, ◌+◌, ◌-◌, ◌*◌, ◌<◌, ◌≤◌, IfOk, length, slice_get, slice_index};
+ghost use Rattle.std.specs.Prelude.{ℕ, ◌≡◌, ◌+◌, ◌-◌, ◌*◌, ◌<◌, ◌≤◌, IfOk, OnOk, length, slice_get, slice_index};
 ghost use Rattle.micro_isa.specs.declared.limits.TheConstants.{MOST_FILE, MOST_INSTRUCTIONS};
 ghost use Rattle.budget.specs.declared.TheConstants.{SIZES};
 ghost use Rattle.flow_graph.specs.Paths.{IsClosedCode};
 ghost use Rattle.plan.specs.ValidPlans.{IsValidPlan};
-ghost use Rattle.emitted.specs.Edges.{next_at};
+ghost use Rattle.emitted.specs.Edges.{row_at, next_at};
 ghost use Rattle.emitted.specs.Words.{glue_of};
 ghost use Rattle.emit.specs.Limits.{most_glue, most_line_glue};
-ghost use Rattle.emit.specs.Sized.{AreCostsTo, AreFew, glue_with, with_places};
+ghost use Rattle.emit.specs.Sized.{AreCostsTo, AreFew, glue_with, takes_nothing, with_places};
+ghost use Rattle.emit.specs.Tables.{HasPlaces};
 
-use crate::after::places_after;
-use crate::edge_costs::{EdgeCosts, costs_to, steps_with};
+use crate::after::{Places, places_of_row, write_place};
+use crate::edge_costs::{EdgeCosts, costs_of_fall, costs_to, steps_with};
 use crate::rows::next_at;
 use crate::sizes::with_jump;
 use budget::SIZE_COUNT;
@@ -49,31 +50,43 @@ fn glues_of(
     ensures few { IfOk result (λ glues. (j : ℕ) → slice_index glues j ≤ most_glue) }
 {
     let mut glues = [0u32; SIZE_COUNT];
+    let mut table = places_of_row(plan, 0);
     for i in 0..code.len() {
-        let (fall, jump) = edges_at(alloc, code, plan, i)?;
+        let (fall, jump) = edges_at(alloc, code, plan, i, &mut table)?;
         add(&mut glues, fall, jump, from);
     }
     Ok(glues)
 }
 
-/// What the edges of instruction `i` cost: where it falls through, and where it jumps.
+/// What the edges of instruction `i` cost: where it falls through, and where it jumps. The table
+/// has the places of row `i`, and then those of the next row.
 pub(crate) fn edges_at(
     alloc: Global,
     code: &[Line],
     plan: &Plan,
     i: usize,
+    table: &mut Places,
 ) -> Result<(EdgeCosts, EdgeCosts), NoMemory>
     requires closed { IsClosedCode code.now }
     requires valid { IsValidPlan code.now plan.now }
     requires within { i < length code.now }
+    requires row { HasPlaces (row_at plan.now i).places table.old }
     ensures fall { IfOk result (λ costs. AreCostsTo code.now plan.now i (next_at (slice_get code.now i) i).fall costs.0) }
     ensures jump { IfOk result (λ costs. AreCostsTo code.now plan.now i (next_at (slice_get code.now i) i).jump costs.1) }
+    ensures next { OnOk result (HasPlaces (row_at plan.now (i + 1)).places table.new) }
 {
-    let after = places_after(code, plan, i);
+    write_place(table, code, plan, i);
     let next = next_at(code, i);
-    let fall = costs_to(alloc, code, plan, i, &after, next.fall)?;
-    let jump = costs_to(alloc, code, plan, i, &after, next.jump)?;
+    let jump = costs_to(alloc, code, plan, i, table, next.jump)?;
+    let fall = costs_of_fall(alloc, code, plan, i, table, next.fall)?;
     Ok((fall, jump))
+}
+
+/// Whether an edge takes no steps.
+fn is_nothing(costs: EdgeCosts) -> bool
+    ensures { result ≡ takes_nothing costs }
+{
+    costs.with_free == 0 && costs.without == 0
 }
 
 /// Adds the glue words of an instruction with these edges, for each number of places.
@@ -85,6 +98,9 @@ fn add(glues: &mut [u32; SIZE_COUNT], fall: EdgeCosts, jump: EdgeCosts, from: u3
     ensures more { (j : ℕ) → j < SIZES → slice_index glues.new j ≡ slice_index glues.old j + glue_with fall jump (from + j) }
     ensures few { (j : ℕ) → slice_index glues.new j ≤ slice_index glues.old j + most_line_glue }
 {
+    if is_nothing(fall) && is_nothing(jump) {
+        return;
+    }
     for j in 0..SIZE_COUNT {
         glues[j] += glue_with(fall, jump, from + j as u32);
     }

@@ -1,6 +1,7 @@
 //! The word of an instruction, and that of a step.
 
 ghost use Rattle.std.specs.Prelude.{ℕ, ◌≡◌, ◌<◌, Some, true, false, length, slice_get, option_map};
+ghost use Rattle.micro_isa.specs.declared.limits.TheConstants.{MOST_FILE};
 ghost use Rattle.micro_isa.specs.Operands.{renamed, retargeted};
 ghost use Rattle.edge_moves.specs.Within.{StepWithin};
 ghost use Rattle.plan.specs.ValidPlans.{place_in, IsValidPlan};
@@ -18,7 +19,7 @@ use plan::{Place, Plan};
 
 /// The register of a place.
 fn register_at(layout: Layout, place: u8) -> PReg
-    requires { place < 128 }
+    requires { place < MOST_FILE }
     ensures { result ≡ register_at layout place }
 {
     let place = u32::from(place);
@@ -41,7 +42,7 @@ fn glue_word(instr: Instr<PReg>) -> Word
 }
 
 pub(crate) fn step_word(step: Step, layout: Layout) -> Word
-    requires { StepWithin 128 step }
+    requires { StepWithin MOST_FILE step }
     ensures { result ≡ step_word (register_at layout) step }
 {
     match step {
@@ -66,7 +67,7 @@ pub(crate) fn jump_word(target: u32) -> Word
 
 /// The register that a register of the source is read from.
 fn read(register: Option<VReg>, places: &[Place], layout: Layout) -> Option<PReg>
-    requires { (k : ℕ) → place_in places.now k < 128 }
+    requires { (k : ℕ) → place_in places.now k < MOST_FILE }
     ensures { result ≡ option_map (λ v. register_at layout (place_in places.now v.0)) register }
 {
     match register {
@@ -77,7 +78,7 @@ fn read(register: Option<VReg>, places: &[Place], layout: Layout) -> Option<PReg
 
 /// The register that is written, if any.
 fn written(register: Option<VReg>, write: u8, layout: Layout) -> Option<PReg>
-    requires { write < 128 }
+    requires { write < MOST_FILE }
     ensures { result ≡ option_map (λ v. register_at layout write) register }
 {
     match register {
@@ -103,8 +104,8 @@ fn renamed(
     goto: u32,
     layout: Layout,
 ) -> Operands<PReg, u32, u8>
-    requires places { (k : ℕ) → place_in places.now k < 128 }
-    requires write { write < 128 }
+    requires places { (k : ℕ) → place_in places.now k < MOST_FILE }
+    requires write { write < MOST_FILE }
     ensures { result ≡ renamed (λ v. register_at layout (place_in places.now v.0)) (register_at layout write) (λ j. goto) operands }
 {
     Operands {
@@ -123,8 +124,8 @@ fn reworded(
     goto: u32,
     layout: Layout,
 ) -> Instr<PReg>
-    requires places { (k : ℕ) → place_in places.now k < 128 }
-    requires write { write < 128 }
+    requires places { (k : ℕ) → place_in places.now k < MOST_FILE }
+    requires write { write < MOST_FILE }
     ensures { result ≡ reword (λ v. register_at layout (place_in places.now v.0)) (register_at layout write) (λ j. goto) instr }
 {
     let operands = renamed(operands_of(&instr), places, write, goto, layout);
@@ -135,8 +136,8 @@ fn reworded(
 }
 
 fn word_of(line: Line, places: &[Place], write: u8, goto: u32, layout: Layout) -> Word
-    requires places { (k : ℕ) → place_in places.now k < 128 }
-    requires write { write < 128 }
+    requires places { (k : ℕ) → place_in places.now k < MOST_FILE }
+    requires write { write < MOST_FILE }
     ensures { result ≡ record { instr = reword (λ v. register_at layout (place_in places.now v.0)) (register_at layout write) (λ j. goto) line.instr; counted = true; line = line.line } }
 {
     Word {

@@ -1,16 +1,17 @@
 //! How many steps an edge takes, by how many places there are in all.
 
-ghost use Rattle.std.specs.Prelude.{ℕ, ◌≡◌, ◌<◌, ◌≤◌, IfOk, length, slice_index};
+ghost use Rattle.std.specs.Prelude.{ℕ, ◌≡◌, ◌+◌, ◌<◌, ◌≤◌, IfOk, OnOk, length, slice_get, slice_index};
 ghost use Rattle.micro_isa.specs.declared.limits.TheConstants.{MOST_FILE};
 ghost use Rattle.flow_graph.specs.Paths.{Edge, IsClosedCode};
+ghost use Rattle.edge_moves.specs.MoveSteps.{moving};
 ghost use Rattle.edge_moves.specs.ParallelMove.{AreDistinct};
 ghost use Rattle.plan.specs.ValidPlans.{IsValidPlan};
-ghost use Rattle.emitted.specs.Edges.{pairs_from, free_from};
-ghost use Rattle.emit.specs.Tables.{AreAfter};
+ghost use Rattle.emitted.specs.Edges.{row_at, next_at, pairs_from, free_from};
+ghost use Rattle.emit.specs.Tables.{AreAfter, AreSmall, HasPlaces};
 ghost use Rattle.emit.specs.Sized.{AreCostsOf, AreCostsTo, place_or_end, steps_with};
 
-use crate::after::Places;
-use crate::edges::{free_place, moves_some, pairs_of};
+use crate::after::{Places, fill};
+use crate::edges::{count_moves, free_place, pairs_of};
 use crate::rows::places_at;
 use edge_moves::{Costs, costs};
 use micro_isa::{Line, NoMemory, PReg};
@@ -31,6 +32,13 @@ const NOTHING: EdgeCosts = EdgeCosts {
     unnamed: 0,
     with_free: 0,
     without: 0,
+};
+
+/// The steps of an edge on which one register moves.
+const SINGLE: EdgeCosts = EdgeCosts {
+    unnamed: 0,
+    with_free: 1,
+    without: 1,
 };
 
 /// How many steps these are where so many places are there.
@@ -54,17 +62,54 @@ fn unnamed(pairs: &[(PReg, PReg)]) -> u32
     }
 }
 
-/// What it costs to move from these places to those of the next row.
-fn costs_of(alloc: Global, after: &Places, next: &[Place]) -> Result<EdgeCosts, NoMemory>
+/// What it costs to move from these places to those of the next row, where so many registers move.
+fn costs_of(
+    alloc: Global,
+    after: &Places,
+    next: &[Place],
+    moves: usize,
+) -> Result<EdgeCosts, NoMemory>
     requires distinct { AreDistinct (pairs_from (λ k. slice_index after.now k) next.now) }
     requires few { length next.now ≤ MOST_FILE }
+    requires moves { moves ≡ length (moving (pairs_from (λ k. slice_index after.now k) next.now)) }
     ensures { IfOk result (AreCostsOf (pairs_from (λ k. slice_index after.now k) next.now)) }
 {
-    if !moves_some(after, next) {
+    if moves == 0 {
         return Ok(NOTHING);
+    }
+    if moves == 1 {
+        return Ok(SINGLE);
     }
     let pairs = pairs_of(alloc, after, next)?;
     Ok(costs_between(pairs.as_slice()))
+}
+
+/// The same on a fall, behind which the table has the places of the next row: where nothing moves,
+/// it has them already.
+fn costs_of_move(alloc: Global, table: &mut Places, next: &[Place]) -> Result<EdgeCosts, NoMemory>
+    requires distinct { AreDistinct (pairs_from (λ k. slice_index table.old k) next.now) }
+    requires few { length next.now ≤ MOST_FILE }
+    requires small { AreSmall next.now }
+    ensures costs { IfOk result (AreCostsOf (pairs_from (λ k. slice_index table.old k) next.now)) }
+    ensures places { OnOk result (HasPlaces next.now table.new) }
+{
+    let moves = count_moves(table, next);
+    if moves == 0 {
+        return Ok(NOTHING);
+    }
+    let costs = costs_of(alloc, table, next, moves)?;
+    fill(table, next);
+    Ok(costs)
+}
+
+/// What it costs to move from these places to those of the next row.
+fn costs_of_jump(alloc: Global, after: &Places, next: &[Place]) -> Result<EdgeCosts, NoMemory>
+    requires distinct { AreDistinct (pairs_from (λ k. slice_index after.now k) next.now) }
+    requires few { length next.now ≤ MOST_FILE }
+    requires small { AreSmall next.now }
+    ensures { IfOk result (AreCostsOf (pairs_from (λ k. slice_index after.now k) next.now)) }
+{
+    costs_of(alloc, after, next, count_moves(after, next))
 }
 
 /// What the moves of these pairs cost.
@@ -97,7 +142,34 @@ pub(crate) fn costs_to(
     ensures { IfOk result (AreCostsTo code.now plan.now i next) }
 {
     match next {
-        Some(j) => costs_of(alloc, after, places_at(plan.rows.as_slice(), j as usize)),
+        Some(j) => costs_of_jump(alloc, after, places_at(plan.rows.as_slice(), j as usize)),
         None => Ok(NOTHING),
+    }
+}
+
+/// What it costs to fall from instruction `i`, after which registers are at `table`. The table then
+/// has the places of the next row, also where the instruction does not fall.
+pub(crate) fn costs_of_fall(
+    alloc: Global,
+    code: &[Line],
+    plan: &Plan,
+    i: usize,
+    table: &mut Places,
+    fall: Option<u32>,
+) -> Result<EdgeCosts, NoMemory>
+    requires closed { IsClosedCode code.now }
+    requires valid { IsValidPlan code.now plan.now }
+    requires within { i < length code.now }
+    requires after { AreAfter code.now plan.now i table.old }
+    requires fall { fall ≡ (next_at (slice_get code.now i) i).fall }
+    ensures costs { IfOk result (AreCostsTo code.now plan.now i fall) }
+    ensures next { OnOk result (HasPlaces (row_at plan.now (i + 1)).places table.new) }
+{
+    match fall {
+        Some(j) => costs_of_move(alloc, table, places_at(plan.rows.as_slice(), j as usize)),
+        None => {
+            fill(table, places_at(plan.rows.as_slice(), i + 1));
+            Ok(NOTHING)
+        }
     }
 }

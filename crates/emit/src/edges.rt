@@ -1,12 +1,12 @@
 //! The steps of an edge.
 
-ghost use Rattle.std.specs.Prelude.{ℕ, ◌≡◌, ◌==◌, ◌<◌, ◌≤◌, ◌||◌, [], IfOk, Some, false, length, slice_get, slice_index, slice_index_or};
+ghost use Rattle.std.specs.Prelude.{ℕ, ◌≡◌, ◌==◌, ◌<◌, ◌≤◌, ◌||◌, IfOk, Some, false, length, slice_get, slice_index, slice_index_or};
 ghost use Rattle.flow_graph.specs.Paths.{Edge, IsClosedCode};
 ghost use Rattle.edge_moves.specs.MoveSteps.{is_source, moving, move_steps};
 ghost use Rattle.edge_moves.specs.ParallelMove.{is_target, AreDistinct};
 ghost use Rattle.plan.specs.ValidPlans.{IsValidPlan};
 ghost use Rattle.emitted.specs.Edges.{row_in, pairs_from, free_from, steps_to};
-ghost use Rattle.emit.specs.Tables.{AreAfter};
+ghost use Rattle.emit.specs.Tables.{AreAfter, AreSmall};
 
 use crate::after::{Places, place_of};
 use crate::rows::places_at;
@@ -16,16 +16,18 @@ use plan::{Place, Plan};
 use smallvec::SmallVec;
 use std::alloc::Global;
 
-/// Whether some register is not yet where the next row has it.
-pub(crate) fn moves_some(after: &Places, next: &[Place]) -> bool
-    ensures { result ≡ false → moving (pairs_from (λ k. slice_index after.now k) next.now) ≡ [] }
+/// How many registers are not yet where the next row has them.
+pub(crate) fn count_moves(after: &Places, next: &[Place]) -> usize
+    requires { AreSmall next.now }
+    ensures { result ≡ length (moving (pairs_from (λ k. slice_index after.now k) next.now)) }
 {
+    let mut moves = 0;
     for listed in next {
-        if place_of(after, listed.register) != listed.place {
-            return true;
+        if after[listed.register.0 as usize] != listed.place {
+            moves += 1;
         }
     }
-    false
+    moves
 }
 
 /// From where each register is after an instruction to where the next row has it.
@@ -79,7 +81,6 @@ pub(crate) fn free_place(pairs: &[(PReg, PReg)], places: u8) -> Option<PReg>
     None
 }
 
-#[tactic(auto, using(crate::proofs::Edging::no_steps))]
 fn steps_of(
     alloc: Global,
     after: &Places,
@@ -89,9 +90,6 @@ fn steps_of(
     requires { AreDistinct (pairs_from (λ k. slice_index after.now k) next.now) }
     ensures { IfOk result (λ done. done.items ≡ move_steps (pairs_from (λ k. slice_index after.now k) next.now) (free_from (pairs_from (λ k. slice_index after.now k) next.now) places 0)) }
 {
-    if !moves_some(after, next) {
-        return Ok(SmallVec::new(alloc));
-    }
     let pairs = pairs_of(alloc, after, next)?;
     let free = free_place(pairs.as_slice(), places);
     sequence(alloc, pairs.as_slice(), free)

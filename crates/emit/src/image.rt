@@ -11,7 +11,6 @@ use crate::layout::Layout;
 use crate::rows::number_at;
 use crate::words::context_words;
 use budget::Budget;
-use liveness::Live;
 use micro_isa::{Bundle, Code, Image, Line, List, NoMemory, Program, Range};
 use plan::Plan;
 use std::alloc::Global;
@@ -22,7 +21,6 @@ use std::alloc::Global;
 pub fn emit(
     alloc: Global,
     bundle: &Bundle,
-    _lives: &[Live],
     plans: &[Plan],
     budget: &Budget,
 ) -> Result<Image, NoMemory>

@@ -3,11 +3,12 @@
 ghost use Rattle.std.specs.Prelude.{ℕ, ◌≡◌, ◌+◌, ◌<◌, ◌≤◌, ◌++◌, ◌∷◌, [], IfOk, OnOk, Some, false, length, slice_get, slice_index};
 ghost use Rattle.flow_graph.specs.Paths.{IsClosedCode};
 ghost use Rattle.plan.specs.ValidPlans.{IsValidPlan};
-ghost use Rattle.emitted.specs.Edges.{next_at, jump_steps};
+ghost use Rattle.emitted.specs.Edges.{next_at, fall_steps, jump_steps};
 ghost use Rattle.emitted.specs.Words.{address, block_address, target_from};
 ghost use Rattle.emit.specs.Addressed.{AreAddresses};
 ghost use Rattle.emit.specs.Blocks.{has_steps};
 
+use crate::after::places_of_row;
 use crate::rows::{next_at, number_at};
 use crate::sizes::glue_at;
 use micro_isa::{Line, List, NoMemory};
@@ -32,10 +33,11 @@ pub(crate) fn addresses_of(alloc: Global, code: &[Line], plan: &Plan) -> Result<
     let mut blocks = reserved(alloc, code.len() + 1)?;
     let mut start = 0u32;
     let mut block = 0u32;
+    let mut table = places_of_row(plan, 0);
     for i in 0..code.len() {
         push_number(&mut starts, start)?;
         push_number(&mut blocks, block)?;
-        let size = glue_at(alloc, code, plan, i)?;
+        let size = glue_at(alloc, code, plan, i, &mut table)?;
         start += 1 + size.fall;
         block += size.block;
     }
@@ -60,6 +62,19 @@ fn push_number(numbers: &mut List<u32>, number: u32) -> Result<(), NoMemory>
         return Err(NoMemory);
     }
     Ok(())
+}
+
+/// Whether steps follow the word of instruction `i`.
+#[tactic(auto, using(crate::proofs::Addressing::start_rises))]
+pub(crate) fn has_falls(code: &[Line], plan: &Plan, addresses: &Addresses, i: usize) -> bool
+    requires closed { IsClosedCode code.now }
+    requires valid { IsValidPlan code.now plan.now }
+    requires addresses { AreAddresses code.now plan.now addresses.now }
+    requires within { i < length code.now }
+    ensures { result ≡ has_steps (fall_steps code.now plan.now i) }
+{
+    let starts = addresses.starts.as_slice();
+    number_at(starts, i) + 1 < number_at(starts, i + 1)
 }
 
 /// Whether instruction `i` has a block.

@@ -1,13 +1,13 @@
 //! The words of a context.
 
-ghost use Rattle.std.specs.Prelude.{ℕ, ◌≡◌, ◌<◌, ◌++◌, ◌∷◌, [], IfOk, OnOk, Some, length, map, slice_get};
+ghost use Rattle.std.specs.Prelude.{ℕ, ◌≡◌, ◌<◌, ◌++◌, ◌∷◌, [], IfOk, OnOk, Some, length, map};
 ghost use Rattle.micro_isa.specs.declared.limits.TheConstants.{MOST_FILE};
 ghost use Rattle.flow_graph.specs.Paths.{Edge, IsClosedCode};
 ghost use Rattle.edge_moves.specs.Within.{StepsWithin};
 ghost use Rattle.micro_isa.specs.Pieces.{pieces};
 ghost use Rattle.plan.specs.ValidPlans.{IsValidPlan};
-ghost use Rattle.emitted.specs.Edges.{next_at, steps_to};
-ghost use Rattle.emitted.specs.Words.{step_word, jump_word, target_from, piece_at, block_at, words_of_plan};
+ghost use Rattle.emitted.specs.Edges.{steps_to};
+ghost use Rattle.emitted.specs.Words.{step_word, falls_at, piece_at, block_at, words_of_plan};
 ghost use Rattle.emit.specs.Layouts.{register_at};
 ghost use Rattle.emit.specs.Addressed.{AreAddresses};
 
@@ -16,7 +16,9 @@ use crate::counted::{counted_word, jump_word, step_word};
 use crate::edges::steps_to;
 use crate::layout::Layout;
 use crate::rows::next_at;
-use crate::starts::{Addresses, addresses_of, goto_at, has_block, target_start, word_count};
+use crate::starts::{
+    Addresses, addresses_of, goto_at, has_block, has_falls, target_start, word_count,
+};
 use edge_moves::Step;
 use micro_isa::{Line, List, NoMemory, Word};
 use plan::Plan;
@@ -100,31 +102,51 @@ fn push_pieces(
     ensures { OnOk result (words.new ≡ words.old ++ pieces (piece_at code.now plan.now (register_at layout)) (length code.now)) }
 {
     for i in 0..code.len() {
-        let goto = goto_at(code, plan, addresses, i);
-        push_piece(alloc, words, code, plan, i, goto, layout)?;
+        push_piece(alloc, words, code, plan, addresses, i, layout)?;
     }
     Ok(())
 }
 
-/// The counted word of an instruction, and the steps of its fall.
-#[tactic(auto, using(crate::proofs::Edging::fall_edge))]
+/// The counted word of an instruction, and the steps of its fall, where there are any.
 fn push_piece(
     alloc: Global,
     words: &mut List<Word>,
     code: &[Line],
     plan: &Plan,
+    addresses: &Addresses,
     i: usize,
-    goto: u32,
+    layout: Layout,
+) -> Result<(), NoMemory>
+    requires closed { IsClosedCode code.now }
+    requires valid { IsValidPlan code.now plan.now }
+    requires addresses { AreAddresses code.now plan.now addresses.now }
+    requires within { i < length code.now }
+    ensures { OnOk result (words.new ≡ words.old ++ piece_at code.now plan.now (register_at layout) i) }
+{
+    let goto = goto_at(code, plan, addresses, i);
+    push(words, counted_word(code, plan, i, goto, layout))?;
+    if !has_falls(code, plan, addresses, i) {
+        return Ok(());
+    }
+    push_falls(alloc, words, code, plan, i, layout)
+}
+
+/// The steps of the fall of an instruction.
+#[tactic(auto, using(crate::proofs::Edging::fall_edge))]
+fn push_falls(
+    alloc: Global,
+    words: &mut List<Word>,
+    code: &[Line],
+    plan: &Plan,
+    i: usize,
     layout: Layout,
 ) -> Result<(), NoMemory>
     requires closed { IsClosedCode code.now }
     requires valid { IsValidPlan code.now plan.now }
     requires within { i < length code.now }
-    requires goto { (j : ℕ) → (next_at (slice_get code.now i) i).jump ≡ Some j → goto ≡ target_from code.now plan.now i j }
-    ensures { OnOk result (words.new ≡ words.old ++ piece_at code.now plan.now (register_at layout) i) }
+    ensures { OnOk result (words.new ≡ words.old ++ falls_at code.now plan.now (register_at layout) i) }
 {
     let falls = edge_steps(alloc, code, plan, i, next_at(code, i).fall)?;
-    push(words, counted_word(code, plan, i, goto, layout))?;
     push_steps(words, falls.as_slice(), layout)
 }
 

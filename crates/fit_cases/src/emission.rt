@@ -102,7 +102,7 @@ fn image_of(alloc: Global, bundle: &Bundle, plan: Plan) -> Result<Image, Fail>
         shared: 1,
         cost: 3,
     };
-    Ok(emit(alloc, bundle, &[], plans.as_slice(), &budget)?)
+    Ok(emit(alloc, bundle, plans.as_slice(), &budget)?)
 }
 
 fn are_words(words: &[Word]) -> bool {

@@ -111,7 +111,7 @@ fn glue_of(
     if check_plan(program, &live, plan).is_err() || MOST_FILE < from {
         return Err("a valid plan".into());
     }
-    let own = glue(alloc, program, &live, plan)?;
+    let own = glue(alloc, program, plan)?;
     Ok((own, glues(alloc, program, plan, from)?))
 }
 

@@ -3,7 +3,7 @@ use Rattle.micro_isa.specs.declared.program.Program.{Program}
 use Rattle.plan.specs.declared.row.Plan.{Plan}
 use Rattle.emitted.specs.Emitted.{ArePlans, PlansFit, emitted}
 use Rattle.allocate.specs.Items.{AreClosed}
-use Rattle.allocate.specs.Tables.{AreChosen}
+use Rattle.allocate.specs.Tables.{AreChosen, AreKept, AreWalksKept}
 use Rattle.allocate.proofs.Allocating.{is_allocation}
 use Rattle.allocate.proofs.Rooming.{are_plans, has_room}
 use Rattle.allocate.proofs.Zipping.{all_closed}
@@ -20,7 +20,7 @@ chosen_of programs others sizes more shared plans e f chosen =
 pub emit-requires-clause-plans : goal.emit-requires-clause-plans
 emit-requires-clause-plans c =
     let b = c.args.bundle.now in
-    let budget = c.args.budget in
+    let budget = c.args.found.budget in
     let plans = c.in_ok-plans.plans in
     let chosen = chosen_of c.as_slice-programs.result.now b.programs c.as_slice-sizes.result.now budget.private budget.shared plans c.as_slice-programs.ensures c.as_slice-sizes.ensures c.in_ok-plans.ensures in
     subst (ArePlans b) (sym c.as_slice.ensures) (are_plans b budget.private budget.shared plans chosen)
@@ -28,7 +28,7 @@ emit-requires-clause-plans c =
 pub emit-requires-clause-room : goal.emit-requires-clause-room
 emit-requires-clause-room c =
     let b = c.args.bundle.now in
-    let budget = c.args.budget in
+    let budget = c.args.found.budget in
     let plans = c.in_ok-plans.plans in
     let chosen = chosen_of c.as_slice-programs.result.now b.programs c.as_slice-sizes.result.now budget.private budget.shared plans c.as_slice-programs.ensures c.as_slice-sizes.ensures c.in_ok-plans.ensures in
     subst (λ ps. PlansFit b ps budget) (sym c.as_slice.ensures)
@@ -37,8 +37,16 @@ emit-requires-clause-room c =
 pub returns-clause-allocation : goal.returns-clause-allocation
 returns-clause-allocation c =
     let b = c.args.bundle.now in
-    let budget = c.args.budget in
+    let budget = c.args.found.budget in
     let plans = c.in_ok-plans.plans in
     let chosen = chosen_of c.as_slice-programs.result.now b.programs c.as_slice-sizes.result.now budget.private budget.shared plans c.as_slice-programs.ensures c.as_slice-sizes.ensures c.in_ok-plans.ensures in
     is_allocation b c.args.analysis.now.parts plans budget c.in_ok-image.image c.args.need c.requires.formed c.requires.pressures c.requires.preferred chosen c.requires.need c.requires.fits
     (c.in_ok-image.ensures.image ∙ ap (λ ps. emitted b ps budget) c.as_slice.ensures)
+
+pub plans_of-requires-clause-keeps : goal.plans_of-requires-clause-keeps
+plans_of-requires-clause-keeps c =
+    subst (AreKept c.as_slice-programs.result.now) (sym c.as_slice-kept.ensures) (subst (λ (ps : List Program). AreKept ps c.args.found.keeps) (sym c.as_slice-programs.ensures) c.requires.keeps)
+
+pub plans_of-requires-clause-walks : goal.plans_of-requires-clause-walks
+plans_of-requires-clause-walks c =
+    subst (AreWalksKept c.as_slice-programs.result.now) (sym c.deref_mut.ensures.value) (subst (λ (ps : List Program). AreWalksKept ps c.args.found.walks.items) (sym c.as_slice-programs.ensures) c.requires.walks)

@@ -1,8 +1,9 @@
-use Rattle.allocate.specs.Tables.{AreRows, IsBeyond}
+use Rattle.std.specs.Prelude.{IfSome}
+use Rattle.allocate.specs.Tables.{AreRows, IsPriced}
 use Rattle.allocate.proofs.table.rows_of.Given as goal
 
 abbrev pub invariant-loop-i : goal.invariant-loop-i
 invariant-loop-i l = record {
   rows : AreRows l.program.code l.part l.most l.i l.cells;
-  beyond : IsBeyond l.program.code l.part.all l.beyond;
+  walk : IfSome l.walk (IsPriced l.program.code l.part.all);
 }

@@ -5,7 +5,7 @@ use Rattle.liveness.specs.Lives.{IsLiveOf}
 use Rattle.pressure.specs.declared.pressure_of.Pressure.{Pressure}
 use Rattle.pressure.specs.Pressures.{IsPressureOf}
 use Rattle.allocate.specs.Items.{IsItem}
-use Rattle.allocate.specs.Tables.{IsTabled}
+use Rattle.allocate.specs.Tables.{IsKept, IsTabled, IsWalkKept}
 use Rattle.allocate.proofs.Zipping.{item_closed, item_is, item_zip, zip_at, got, long}
 use Rattle.allocate.proofs.Rooming.{most_part}
 use Rattle.allocate.proofs.table.table_at.Goals as goal
@@ -37,6 +37,14 @@ table_of-requires-clause-all c =
     let small = c.requires.small in
     omega arith
 
-pub returns : goal.returns
-returns c = IfOk-weaker c.table_of.result (IsTabled c.args.spare c.index-programs-c.result.code) (IsItem (IsTabled c.args.spare) c.args.programs.now c.args.c)
-    (λ table is. item_is (IsTabled c.args.spare) c.args.programs.now c.args.c c.index-programs-c.result table c.requires.within c.index-programs-c.is is) c.table_of.ensures
+pub returns-clause-table : goal.returns-clause-table
+returns-clause-table c = IfOk-weaker c.table_of.result (λ made. IsTabled c.args.spare c.index-programs-c.result.code made.table) (λ made. IsItem (IsTabled c.args.spare) c.args.programs.now c.args.c made.table)
+    (λ made is. item_is (IsTabled c.args.spare) c.args.programs.now c.args.c c.index-programs-c.result made.table c.requires.within c.index-programs-c.is is) c.table_of.ensures.table
+
+pub returns-clause-kept : goal.returns-clause-kept
+returns-clause-kept c = IfOk-weaker c.table_of.result (λ made. IsKept c.index-programs-c.result.code made.kept) (λ made. IsItem IsKept c.args.programs.now c.args.c made.kept)
+    (λ made is. item_is IsKept c.args.programs.now c.args.c c.index-programs-c.result made.kept c.requires.within c.index-programs-c.is is) c.table_of.ensures.kept
+
+pub returns-clause-walk : goal.returns-clause-walk
+returns-clause-walk c = IfOk-weaker c.table_of.result (λ made. IsWalkKept c.index-programs-c.result.code made.walk) (λ made. IsItem IsWalkKept c.args.programs.now c.args.c made.walk)
+    (λ made is. item_is IsWalkKept c.args.programs.now c.args.c c.index-programs-c.result made.walk c.requires.within c.index-programs-c.is is) c.table_of.ensures.walk

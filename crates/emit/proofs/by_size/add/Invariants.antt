@@ -1,4 +1,4 @@
-use Rattle.std.proofs.Common.{◌≡◌, ◌+◌, ◌<◌, ◌≤◌, ℕ, length}
+use Rattle.std.proofs.Common.{◌≡◌, ◌+◌, ◌<◌, ◌≤◌, ℕ}
 use Rattle.std.specs.Prelude.{slice_index}
 use Rattle.emit.specs.Limits.{most_line_glue}
 use Rattle.emit.specs.Sized.{glue_with}

@@ -1,13 +1,16 @@
 use Rattle.std.proofs.Common.{◌≡◌, ◌+◌, ◌*◌, ◌<◌, ◌≤◌, ℕ}
 use Rattle.std.specs.Prelude.{slice_index}
 use Rattle.budget.specs.declared.TheConstants.{SIZES}
+use Rattle.emitted.specs.Edges.{row_at}
 use Rattle.emit.specs.Addressed.{glue_before}
 use Rattle.emit.specs.Limits.{most_line_glue}
 use Rattle.emit.specs.Sized.{with_places}
+use Rattle.emit.specs.Tables.{HasPlaces}
 use Rattle.emit.proofs.by_size.glues_of.Given as goal
 
 abbrev pub invariant-loop-i : goal.invariant-loop-i
 invariant-loop-i l = record {
   numbers : (j : ℕ) → j < SIZES → slice_index l.glues j ≡ glue_before l.code (with_places l.plan (l.from + j)) l.i;
   few : (j : ℕ) → slice_index l.glues j ≤ most_line_glue * l.i;
+  row : HasPlaces (row_at l.plan l.i).places l.table;
 }

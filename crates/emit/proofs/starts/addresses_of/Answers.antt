@@ -1,5 +1,6 @@
-use Rattle.std.proofs.Common.{◌+◌, length, arith}
+use Rattle.std.proofs.Common.{◌+◌, arith}
 use Rattle.emit.proofs.Sizing.{small_address, small_block, next_start, next_blocks}
+use Rattle.emit.proofs.Filling.{row_small}
 use Rattle.emit.proofs.starts.addresses_of.Goals as goal
 
 pub overflow_add-start-in-loop-i : goal.overflow_add-start-in-loop-i
@@ -21,3 +22,6 @@ overflow_add-block c =
     let next = next_blocks c.args.code.now c.args.plan.now c.loop-i.i in
     let small = small_block c.args.code.now c.args.plan.now c.requires.valid c.requires.closed (c.loop-i.i + 1) (omega arith) in
     omega arith
+
+pub places_of_row-table-requires : goal.places_of_row-table-requires
+places_of_row-table-requires c = row_small c.args.code.now c.args.plan.now 0 c.requires.closed c.requires.valid

@@ -1,4 +1,4 @@
-use Rattle.std.proofs.Common.{◌≡◌, ◌∙◌, Some, sym, ap, subst, arith}
+use Rattle.std.proofs.Common.{◌∙◌, sym, ap}
 use Rattle.std.specs.Prelude.{slice_index}
 use Rattle.emit.proofs.Addressing.{target_is}
 use Rattle.emit.proofs.starts.target_start.Goals as goal

@@ -3,7 +3,7 @@ use Rattle.micro_isa.specs.declared.limits.TheConstants.{MOST_FILE}
 use Rattle.edge_moves.specs.Within.{StepsWithin}
 use Rattle.emitted.specs.Edges.{steps_to}
 use Rattle.emit.proofs.Laying.{fall_small}
-use Rattle.emit.proofs.words.push_piece.Goals as goal
+use Rattle.emit.proofs.words.push_falls.Goals as goal
 
 pub push_steps-requires : goal.push_steps-requires
 push_steps-requires c =
