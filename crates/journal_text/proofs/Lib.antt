@@ -4,5 +4,6 @@ mod Numerals
 mod FirstLines
 mod Spelling
 pub mod Telling
-mod Progress
-mod Reading
+pub mod Progress
+pub mod Reading
+mod Fronts

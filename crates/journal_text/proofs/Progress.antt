@@ -11,6 +11,12 @@ pub record ReadSoFar (text : List ℕ) (entries : List Entry) (rest : List ℕ) 
   pub lines : lines_of text ≡ map entry_words entries ++ lines_of rest
   pub few : length entries + length rest ≤ length text
 
+-- so many lines were read, each as an entry
+pub record Passed (text : List ℕ) (n : ℕ) (rest : List ℕ) : Type 0 where
+  pub entries : List Entry
+  pub sofar : ReadSoFar text entries rest
+  pub many : n ≡ length entries
+
 -- no line before this place is `journal`
 pub record SearchedTo (text : List ℕ) (start : ℕ) : Type 0 where
   pub within : start ≤ length text

@@ -10,7 +10,8 @@ use Rattle.world.specs.declared.event.Entry.{Entry}
 use Rattle.journal_text.specs.Entries.{entry_words, IsFitting, IsNoEntry}
 use Rattle.journal_text.specs.Journals.{lines_of, IsJournal, IsFirstStray, whole_from, is_mark, before_mark, behind_mark, bundle_part, journal_part}
 use Rattle.journal_text.specs.Lines.{IsFirstLine}
-use Rattle.journal_text.proofs.Progress.{ReadSoFar, SearchedTo}
+use Rattle.journal_text.specs.Firsts.{IsFirstEntry, BeginsAstray, HasEntries}
+use Rattle.journal_text.proofs.Progress.{ReadSoFar, Passed, SearchedTo}
 use Rattle.journal_text.proofs.Telling.{words_once}
 
 pub read_none : (text : List ℕ) → ReadSoFar text [] text
@@ -25,12 +26,12 @@ words_more [] e rest = refl
 words_more (x ∷ xs) e rest = ap (λ ls. entry_words x ∷ ls) (words_more xs e rest)
 
 -- one entry more
-pub read_more : (text rest line behind : List ℕ) (es new : List Entry) (e : Entry) → ReadSoFar text es rest → IsFirstLine rest line behind → IsFitting e → line ≡ entry_words e → new ≡ es ++ e ∷ [] → ReadSoFar text new behind
-read_more text rest line behind es new e sofar first fit same n =
+pub read_more : (text rest behind : List ℕ) (es new : List Entry) (e : Entry) → ReadSoFar text es rest → IsFirstEntry rest e behind → new ≡ es ++ e ∷ [] → ReadSoFar text new behind
+read_more text rest behind es new e sofar first n =
     let made : ReadSoFar text (es ++ e ∷ []) behind = record {
-      fitting = all_more es e sofar.fitting fit;
+      fitting = all_more es e sofar.fitting first.fitting;
       lines = sofar.lines
-          ∙ ap (λ ls. map entry_words es ++ ls) (first.lines ∙ ap (λ l. l ∷ lines_of behind) same)
+          ∙ ap (λ ls. map entry_words es ++ ls) first.lines
           ∙ sym (words_more es e (lines_of behind));
       few = omega (arith, sofar.few, first.shorter, length-append es (e ∷ []));
     } in
@@ -49,15 +50,15 @@ read_all text rest es sofar h = record {
 pub read_alone : (text : List ℕ) (es : List Entry) → IsJournal text es → (other : List Entry) → IsJournal text other → other ≡ es
 read_alone text es is other too = words_once other es too.fitting is.fitting (sym too.lines ∙ is.lines)
 
-pub strays_at : (text rest line behind : List ℕ) (es : List Entry) → ReadSoFar text es rest → IsFirstLine rest line behind → IsNoEntry line → IsFirstStray text (length es + 1)
-strays_at text rest line behind es sofar first none = record {
+pub strays_at : (text rest : List ℕ) (es : List Entry) → ReadSoFar text es rest → BeginsAstray rest → IsFirstStray text (length es + 1)
+strays_at text rest es sofar stray = record {
   before = es;
-  line = line;
-  rest = lines_of behind;
+  line = stray.line;
+  rest = stray.rest;
   fitting = sofar.fitting;
-  lines = sofar.lines ∙ ap (λ ls. map entry_words es ++ ls) first.lines;
+  lines = sofar.lines ∙ ap (λ ls. map entry_words es ++ ls) stray.lines;
   place = refl;
-  none = none;
+  none = stray.none;
 }
 
 stray_by : (before es : List Entry) (line : List ℕ) (rest : List (List ℕ)) → AllByRecursion IsFitting es → map entry_words es ≡ map entry_words before ++ line ∷ rest → IsNoEntry line → ⊥
@@ -69,6 +70,59 @@ stray_by (b ∷ bs) (e ∷ es) line rest fit h none = stray_by bs es line rest f
 -- a text with a line that is no entry is no journal
 pub stray_unread : (text : List ℕ) (at : ℕ) → IsFirstStray text at → (es : List Entry) → IsJournal text es → ⊥
 stray_unread text at stray es is = stray_by stray.before es stray.line stray.rest is.fitting (sym is.lines ∙ stray.lines) stray.none
+
+-- an entry behind those that were read, and what its rest is
+
+all_joined : (es more : List Entry) (e : Entry) → AllByRecursion IsFitting es → IsFitting e → AllByRecursion IsFitting more → AllByRecursion IsFitting (es ++ e ∷ more)
+all_joined [] more e all fit rest = (fit, rest)
+all_joined (x ∷ xs) more e all fit rest = (all.0, all_joined xs more e all.1 fit rest)
+
+words_joined : (es more : List Entry) (e : Entry) (rest : List (List ℕ)) → map entry_words (es ++ e ∷ more) ++ rest ≡ map entry_words es ++ entry_words e ∷ (map entry_words more ++ rest)
+words_joined [] more e rest = refl
+words_joined (x ∷ xs) more e rest = ap (λ ls. entry_words x ∷ ls) (words_joined xs more e rest)
+
+pub journal_joined : (text rest behind : List ℕ) (es more : List Entry) (e : Entry) → ReadSoFar text es rest → IsFirstEntry rest e behind → IsJournal behind more → IsJournal text (es ++ e ∷ more)
+journal_joined text rest behind es more e sofar first is = record {
+  lines = sofar.lines
+      ∙ ap (λ ls. map entry_words es ++ ls) (first.lines ∙ ap (λ ls. entry_words e ∷ ls) (is.lines ∙ sym (append-nil (map entry_words more))))
+      ∙ sym (words_joined es more e [])
+      ∙ append-nil (map entry_words (es ++ e ∷ more));
+  fitting = all_joined es more e sofar.fitting first.fitting is.fitting;
+}
+
+pub stray_joined : (text rest behind : List ℕ) (es : List Entry) (e : Entry) (at : ℕ) → ReadSoFar text es rest → IsFirstEntry rest e behind → IsFirstStray behind at → IsFirstStray text ((length es + 1) + at)
+stray_joined text rest behind es e at sofar first stray = record {
+  before = es ++ e ∷ stray.before;
+  line = stray.line;
+  rest = stray.rest;
+  fitting = all_joined es stray.before e sofar.fitting first.fitting stray.fitting;
+  lines = sofar.lines
+      ∙ ap (λ ls. map entry_words es ++ ls) (first.lines ∙ ap (λ ls. entry_words e ∷ ls) stray.lines)
+      ∙ sym (words_joined es stray.before e (stray.line ∷ stray.rest));
+  place = omega (arith, stray.place, length-append es (e ∷ stray.before));
+  none = stray.none;
+}
+
+-- lines that are counted
+
+pub passed_none : (text : List ℕ) → Passed text 0 text
+passed_none text = record { entries = []; sofar = read_none text; many = refl }
+
+pub passed_more : (text rest behind : List ℕ) (n : ℕ) (e : Entry) → Passed text n rest → IsFirstEntry rest e behind → Passed text (n + 1) behind
+passed_more text rest behind n e p first = record {
+  entries = p.entries ++ e ∷ [];
+  sofar = read_more text rest behind p.entries (p.entries ++ e ∷ []) e p.sofar first refl;
+  many = omega (arith, p.many, length-append p.entries (e ∷ []));
+}
+
+pub strays_after : (text rest : List ℕ) (n : ℕ) → Passed text n rest → BeginsAstray rest → IsFirstStray text (n + 1)
+strays_after text rest n p stray = subst (λ k. IsFirstStray text (k + 1)) (sym p.many) (strays_at text rest p.entries p.sofar stray)
+
+pub read_after : (text rest : List ℕ) (n : ℕ) → Passed text n rest → length rest ≡ 0 → HasEntries text
+read_after text rest n p none = record { entries = p.entries; read = read_all text rest p.entries p.sofar none }
+
+pub few_passed : (text rest : List ℕ) (n : ℕ) → Passed text n rest → n + length rest ≤ length text
+few_passed text rest n p = omega (arith, p.sofar.few, p.many)
 
 pub searched_none : (text : List ℕ) → SearchedTo text 0
 searched_none text = record { within = omega arith; bundle = refl; journal = refl }

@@ -131,7 +131,8 @@ after_by prefix text rest true e h =
     ∙ ap (λ x. prefix ++ x) (same_Some _ _ h)
 after_by prefix text rest false e h = absurd (cc)
 
-after_is : (prefix text rest : List ℕ) → after prefix text ≡ Some rest → text ≡ prefix ++ rest
+-- a text that begins so
+pub after_is : (prefix text rest : List ℕ) → after prefix text ≡ Some rest → text ≡ prefix ++ rest
 after_is prefix text rest h = after_by prefix text rest (bytes_eq (take (length prefix) text) prefix) refl h
 
 -- an entry and its line

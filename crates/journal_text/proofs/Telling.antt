@@ -28,7 +28,8 @@ end_lacks (end.Trap Divide) = refl
 end_lacks (end.Trap Address) = refl
 end_lacks end.Bound = refl
 
-words_lack : (e : Entry) → IsFitting e → lacks 10 (entry_words e) ≡ true
+-- the words of an entry have no newline
+pub words_lack : (e : Entry) → IsFitting e → lacks 10 (entry_words e) ≡ true
 words_lack (Ran c n e) fit =
     ap (lacks 10) (run_flat (codes "run ") (decimal c) (decimal n) (end_word e))
     ∙ lacks_both 10 (decimal c) (32 ∷ (decimal n ++ (32 ∷ end_word e))) (number_lacks 10 c (omega arith) fit.0) (lacks_both 10 (decimal n) (32 ∷ end_word e) (number_lacks 10 n (omega arith) fit.1) (end_lacks e))

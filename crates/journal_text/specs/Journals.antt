@@ -15,6 +15,11 @@ pub record IsJournal (text : List ℕ) (entries : List Entry) : Type 0 where
   pub lines : lines_of text ≡ map entry_words entries
   pub fitting : AllByRecursion IsFitting entries
 
+-- the lines are these entries and no others
+pub record AreEntries (text : List ℕ) (entries : List Entry) : Type 0 where
+  pub read : IsJournal text entries
+  pub alone : (other : List Entry) → IsJournal text other → other ≡ entries
+
 -- the line of this number, counted from 1, is the first that is no entry
 pub record IsFirstStray (text : List ℕ) (at : ℕ) : Type 0 where
   pub before : List Entry

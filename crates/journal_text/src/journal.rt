@@ -1,11 +1,12 @@
-ghost use Rattle.std.specs.Prelude.{◌≡◌, ◌≤◌, List as Sequence, length, codes, IfOk, IfErr};
+ghost use Rattle.std.specs.Prelude.{◌≡◌, ◌≤◌, List as Sequence, length, codes, IfOk, IfErr, IfSome, IfNone};
 ghost use Rattle.std.specs.Str.{bytes_eq};
 ghost use Rattle.world.specs.declared.event.Entry.{Entry};
-ghost use Rattle.journal_text.specs.Journals.{IsJournal, bundle_part, journal_part};
+ghost use Rattle.journal_text.specs.Journals.{IsJournal, IsFirstStray, bundle_part, journal_part};
+ghost use Rattle.journal_text.specs.Firsts.{HasEntries};
 ghost use Rattle.journal_text.specs.Faults.{StraysAt, IsUnread};
 
-use crate::lines::{first_line, line_at};
-use crate::words::read_entry;
+use crate::front::first_entry;
+use crate::lines::line_at;
 use micro_isa::{LONGEST_JOURNAL, List};
 use std::alloc::Global;
 use thiserror::Error;
@@ -33,12 +34,12 @@ pub fn read_journal(alloc: Global, text: &[u8]) -> Result<List<Entry>, JournalFa
     let mut entries = List::new(alloc);
     let mut rest = text;
     'lines: while !rest.is_empty() {
-        let (line, behind) = first_line(rest);
-        match read_entry(line) {
-            Some(entry) => {
+        match first_entry(rest) {
+            Some((entry, behind)) => {
                 if entries.push(entry).is_err() {
                     return Err(JournalFault::NoMemory);
                 }
+                rest = behind;
             }
             None => {
                 return Err(JournalFault::Reading {
@@ -46,9 +47,30 @@ pub fn read_journal(alloc: Global, text: &[u8]) -> Result<List<Entry>, JournalFa
                 });
             }
         }
-        rest = behind;
     }
     Ok(entries)
+}
+
+/// The number of a text's first line that is no entry, counted from 1; none exactly where each line is one.
+#[tactic(auto, using(crate::proofs::Reading::strays_after, crate::proofs::Reading::read_after))]
+pub fn first_stray(text: &[u8]) -> Option<u32>
+    requires { length text.now ≤ LONGEST_JOURNAL }
+    ensures some { IfSome result (IsFirstStray text.now) }
+    ensures none { IfNone result (HasEntries text.now) }
+    ensures within { IfSome result (λ at. at ≤ length text.now) }
+{
+    let mut rest = text;
+    let mut count = 0u32;
+    'lines: while !rest.is_empty() {
+        match first_entry(rest) {
+            Some((_, behind)) => {
+                count += 1;
+                rest = behind;
+            }
+            None => return Some(count + 1),
+        }
+    }
+    None
 }
 
 /// The part of a text before the first line `journal`, and the part behind it. Without such a line the

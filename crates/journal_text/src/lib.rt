@@ -3,10 +3,12 @@
 #![tactic(auto)]
 
 mod entry;
+mod front;
 mod journal;
 mod lines;
 mod words;
 
 pub use entry::{put_entry, put_entry_words, trap_word};
-pub use journal::{JournalFault, read_journal, split_journal};
+pub use front::first_entry;
+pub use journal::{JournalFault, first_stray, read_journal, split_journal};
 pub use words::read_entry;

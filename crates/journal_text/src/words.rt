@@ -33,7 +33,7 @@ fn entry_of(line: &[u8]) -> Option<Entry>
 }
 
 /// What follows these bytes, where a text begins with them.
-fn after<'a>(text: &'a [u8], prefix: &[u8]) -> Option<&'a [u8]>
+pub(crate) fn after<'a>(text: &'a [u8], prefix: &[u8]) -> Option<&'a [u8]>
     ensures { option_map (λ rest. rest.now) result ≡ after prefix.now text.now }
 {
     text.strip_prefix(prefix)
@@ -77,7 +77,7 @@ fn unplugged_of(text: &[u8]) -> Option<Entry>
     Some(Entry::Unplugged { channel })
 }
 
-fn plain_number(word: &[u8]) -> Option<u32>
+pub(crate) fn plain_number(word: &[u8]) -> Option<u32>
     ensures { result ≡ plain_number word.now }
 {
     match word {

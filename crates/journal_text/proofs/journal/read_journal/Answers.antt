@@ -5,4 +5,4 @@ use Rattle.journal_text.proofs.journal.read_journal.Goals as goal
 pub returns-in-None-clause-unread : goal.returns-in-None-clause-unread
 returns-in-None-clause-unread c =
     stray_unread c.args.text.now (length c.lines.entries + 1)
-    (strays_at c.args.text.now c.lines.rest.now c.first_line.result.0.now c.first_line.result.1.now c.lines.entries c.lines.invariant c.first_line.ensures c.in-None.ensures.none)
+    (strays_at c.args.text.now c.lines.rest.now c.lines.entries c.lines.invariant c.in-None.ensures.none)
