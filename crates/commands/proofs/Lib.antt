@@ -1,4 +1,5 @@
 pub mod Reporting
+pub mod GivenBack
 pub mod Telling
 pub mod Preparing
 pub mod Worked

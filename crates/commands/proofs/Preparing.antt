@@ -23,7 +23,7 @@ use Rattle.commands.specs.declared.prepared.Prepared.{Prepared}
 use Rattle.commands.specs.declared.prepared.Prepared.TheVariants as prepared
 use Rattle.commands.specs.Reports.{IsReport, IsSourceReport}
 use Rattle.commands.specs.Tells.{RunTells, BuildTells, FitsFile, IsServed, no_fit_line}
-use Rattle.commands.specs.Openings.{Telling, IsOpening, TellsAtOnce, TellsInTheEnd, ComesTo, ToldOfRun, ToldOfBundle, ToldOfImage}
+use Rattle.commands.specs.Openings.{IsOpening, TellsAtOnce, TellsInTheEnd, ComesTo, ToldOfRun, ToldOfBundle, ToldOfImage}
 use Rattle.commands.proofs.Telling.{run_tells, run_does_not_fit, run_tells_by, exec_tells_by, report_served, not_both, served}
 
 -- the report of a run from an opening is one of a run of its image

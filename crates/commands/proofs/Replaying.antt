@@ -1,5 +1,5 @@
 -- What a replay tells, from what its parts leave; and that what fits is served.
-use Rattle.std.proofs.Common.{◌≡◌, ℕ, ◌<◌, ◌≤◌, List, Option, Some, None, refl, sym, ap, ◌∙◌, subst, arith, inl, inr}
+use Rattle.std.proofs.Common.{◌≡◌, ℕ, List, Option, Some, None, refl, sym, ap, ◌∙◌, subst, inl, inr}
 use Rattle.std.specs.Option.{option_or}
 use Rattle.micro_isa.specs.declared.program.Bundle.{Bundle}
 use Rattle.micro_isa.specs.declared.image.Image.{Image}
@@ -14,19 +14,20 @@ use Rattle.emitted.specs.Emitted.{IsEmitted}
 use Rattle.allocate.specs.declared.allocation.Allocation.{Allocation}
 use Rattle.allocate.specs.declared.allocation.AllocFault.TheVariants.{NoFit}
 use Rattle.allocate.specs.Allocations.{IsAllocation, HasOneAllocation, TellsFault}
-use Rattle.journal_text.specs.Journals.{IsJournal, IsFirstStray}
 use Rattle.run_journal.specs.declared.replaying.ReplayFault.{ReplayFault}
 use Rattle.run_journal.specs.declared.replaying.ReplayFault.TheVariants as fault
 use Rattle.run_journal.specs.Histories.{RunState, run_ending}
-use Rattle.run_journal.specs.Replays.{Replays, StraysBy, IsRefused}
+use Rattle.run_journal.specs.declared.texts.TextFault.TheVariants.{Strays}
+use Rattle.run_journal.specs.Replays.{Replays, IsRefused}
+use Rattle.run_journal.specs.TextReplays.{ReplaysText, IsUnreadAt, StrayEntries, StraysInText}
 use Rattle.report_run.specs.Report.{report_text}
 use Rattle.commands.specs.declared.status.Status.{Status}
 use Rattle.commands.specs.declared.status.Status.TheVariants as status
 use Rattle.commands.specs.declared.task.JournalTask.{JournalTask}
 use Rattle.commands.specs.declared.task.JournalTask.TheVariants as journal
-use Rattle.commands.specs.Reports.{IsReportOfEntries, status_of, status_so_far}
+use Rattle.commands.specs.Reports.{status_so_far}
 use Rattle.commands.specs.Tells.{no_fit_line, IsServed, steps_of_journal}
-use Rattle.commands.specs.Journals.{unread_line, IsUnread, AreEntries, TellsStray, IsStray, EntriesReplayed, IsRead, Replayed, TellsOfJournal, IsLegalJournal, FitsJournal}
+use Rattle.commands.specs.Journals.{unread_line, TellsStray, EntriesReplayed, Replayed, TellsOfJournal, IsLegalJournal, FitsJournal}
 use Rattle.commands.proofs.Telling.{of_image, does_not_fit, not_both, ended_served}
 
 pub replay_tells : (steps : ℕ) (answer : Status) (b : Bundle) (lines text : List ℕ) (a : Allocation) → IsAllocation b a → HasOneAllocation b → IsEmitted b a.plans a.budget a.image → Replayed steps a.image a.need lines answer text → TellsOfJournal (journal.Replay steps) answer b lines text
@@ -37,18 +38,19 @@ pub replay_does_not_fit : (steps need file : ℕ) (answer : Status) (b : Bundle)
 replay_does_not_fit steps need file answer b lines text fault answered told = inl (does_not_fit answer b text need file fault answered told)
 
 -- lines that are not entries, and lines that are
-pub told_unread : (steps need at : ℕ) (m : Image) (lines : List ℕ) (answer : Status) (text : List ℕ) → IsFirstStray lines at → ((entries : List Entry) → IsJournal lines entries → ⊥) → answer ≡ status.BadJournal → text ≡ unread_line at → Replayed steps m need lines answer text
-told_unread steps need at m lines answer text stray unread answered told =
-    inl (record { answered = answered; at = at; stray = stray; unread = unread; told = told })
+pub told_unread : (steps need at : ℕ) (m : Image) (lines : List ℕ) (answer : Status) (text : List ℕ) → IsUnreadAt lines at → answer ≡ status.BadJournal → text ≡ unread_line at → Replayed steps m need lines answer text
+told_unread steps need at m lines answer text is answered told =
+    inl (record { answered = answered; at = at; stray = is.stray; unread = is.unread; told = told })
 
-pub told_read : (steps need : ℕ) (m : Image) (lines : List ℕ) (entries : List Entry) (answer : Status) (text : List ℕ) → IsJournal lines entries → ((other : List Entry) → IsJournal lines other → other ≡ entries) → EntriesReplayed steps m need entries answer text → Replayed steps m need lines answer text
-told_read steps need m lines entries answer text read alone replayed =
-    inr (record { entries = entries; are = record { read = read; alone = alone }; replayed = replayed })
+stray_by : (steps need : ℕ) (m : Image) (lines : List ℕ) (why : ReplayFault) (answer : Status) (text : List ℕ) → StrayEntries why m steps lines → answer ≡ status.BadJournal → TellsStray why text → Replayed steps m need lines answer text
+stray_by steps need m lines why answer text s answered told =
+    inr (record { entries = s.entries; are = s.are; replayed = inl (record { answered = answered; why = why; strays = s.strays; refused = s.refused; told = told }) })
 
--- entries that stray, and entries that are legal
-pub stray_told : (steps need : ℕ) (m : Image) (entries : List Entry) (why : ReplayFault) (answer : Status) (text : List ℕ) → StraysBy why m steps entries → IsRefused why m steps entries → answer ≡ status.BadJournal → TellsStray why text → EntriesReplayed steps m need entries answer text
-stray_told steps need m entries why answer text strays refused answered told =
-    inl (record { answered = answered; why = why; strays = strays; refused = refused; told = told })
+-- lines whose entries stray
+pub told_stray : (steps need : ℕ) (m : Image) (lines : List ℕ) (why : ReplayFault) (answer : Status) (text : List ℕ) → StraysInText (Strays why) m steps lines → answer ≡ status.BadJournal → TellsStray why text → Replayed steps m need lines answer text
+told_stray steps need m lines (fault.Illegal at written) answer text s answered told = stray_by steps need m lines (fault.Illegal at written) answer text s answered told
+told_stray steps need m lines (fault.Differs at written found) answer text s answered told = stray_by steps need m lines (fault.Differs at written found) answer text s answered told
+told_stray steps need m lines fault.NoMemory answer text s answered told = absurd told
 
 -- without a pump a run ends as its engine
 no_idle : (core : Core) (idle : ℕ) → idle ≡ 0 → run_ending core idle ≡ ending_of core
@@ -58,7 +60,7 @@ no_idle core idle none = ap (run_ending core) none ∙ by (ending_of core)
     by None = refl
     by (Some end) = refl
 
-pub report_of_entries : (steps need : ℕ) (m : Image) (entries : List Entry) (r : RunState) (answer : Status) (text : List ℕ) → Replays r m steps entries → LeadsTo (machine_semantics m) (machine_open m steps) entries (config_of r.engine) → answer ≡ status_so_far (run_ending r.engine.core r.idle) r.engine.core.phases → text ≡ report_text (Some need) (Some r.engine.image) r.engine.image.setting.channels r.entries (record { view = shown_core r.engine.core; file = Some r.engine.file; ending = run_ending r.engine.core r.idle }) → EntriesReplayed steps m need entries answer text
+report_of_entries : (steps need : ℕ) (m : Image) (entries : List Entry) (r : RunState) (answer : Status) (text : List ℕ) → Replays r m steps entries → LeadsTo (machine_semantics m) (machine_open m steps) entries (config_of r.engine) → answer ≡ status_so_far (run_ending r.engine.core r.idle) r.engine.core.phases → text ≡ report_text (Some need) (Some r.engine.image) r.engine.image.setting.channels r.entries (record { view = shown_core r.engine.core; file = Some r.engine.file; ending = run_ending r.engine.core r.idle }) → EntriesReplayed steps m need entries answer text
 report_of_entries steps need m entries r answer text replays legal answered told =
     let end = no_idle r.engine.core r.idle replays.no_pump in inr (record {
       last = config_of r.engine;
@@ -69,6 +71,11 @@ report_of_entries steps need m entries r answer text replays legal answered told
           ∙ ap (λ l. report_text (Some need) (Some m) m.setting.channels l (record { view = shown_core r.engine.core; file = Some r.engine.file; ending = run_ending r.engine.core r.idle })) replays.same_entries
           ∙ ap (λ o. report_text (Some need) (Some m) m.setting.channels entries (record { view = shown_core r.engine.core; file = Some r.engine.file; ending = o })) end;
     })
+
+-- lines whose entries are those of a run
+pub told_run : (steps need : ℕ) (m : Image) (lines : List ℕ) (r : RunState) (answer : Status) (text : List ℕ) → ReplaysText r m steps lines → LeadsTo (machine_semantics m) (machine_open m steps) r.entries (config_of r.engine) → answer ≡ status_so_far (run_ending r.engine.core r.idle) r.engine.core.phases → text ≡ report_text (Some need) (Some r.engine.image) r.engine.image.setting.channels r.entries (record { view = shown_core r.engine.core; file = Some r.engine.file; ending = run_ending r.engine.core r.idle }) → Replayed steps m need lines answer text
+told_run steps need m lines r answer text replays legal answered told =
+    inr (record { entries = r.entries; are = replays.are; replayed = report_of_entries steps need m r.entries r answer text replays.replays legal answered told })
 
 -- a run that may go on is served
 so_far_served : (core : Core) (o : Option End) → IsServed (status_so_far o core.phases)

@@ -26,7 +26,6 @@ use Rattle.engine_core.specs.EngineState as engine
 use Rattle.source_core.specs.SourceState.{SourceState}
 use Rattle.source_core.specs.SourceState as source
 use Rattle.round_order.specs.RoundRuns.{IsRoundRun}
-use Rattle.ports.specs.declared.told.Told.{Told}
 use Rattle.ports.specs.SlotsState.{SlotsState}
 use Rattle.run_journal.specs.Attaching.{is_missing, detaching, detached}
 use Rattle.run_journal.specs.Histories.{RunState, IsHistory, IsIdle, run_ending, bound_of, channels_of}

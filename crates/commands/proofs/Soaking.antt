@@ -1,8 +1,7 @@
 -- The run of a generated bundle, and its summary.
-use Rattle.std.proofs.Common.{◌≡◌, ℕ, List, [], ◌∷◌, length, Some, true, refl, sym, ap, ◌∙◌, subst, inl, inr}
+use Rattle.std.proofs.Common.{◌≡◌, ℕ, List, [], ◌∷◌, length, true, refl, sym, ap, ◌∙◌, subst, inl, inr}
 use Rattle.micro_isa.specs.declared.limits.TheConstants.{MOST_STEPS}
 use Rattle.micro_isa.specs.declared.image.Image.{Image}
-use Rattle.world.specs.declared.event.Entry.{Entry}
 use Rattle.emitted.specs.Emitted.{IsEmitted}
 use Rattle.allocate.specs.declared.allocation.Allocation.{Allocation}
 use Rattle.allocate.specs.declared.allocation.AllocFault.TheVariants.{NoFit}
@@ -17,7 +16,7 @@ use Rattle.report_run.specs.Report.{soak_summary}
 use Rattle.soak_gen.specs.Bundles.{generated}
 use Rattle.commands.specs.declared.status.Status.{Status}
 use Rattle.commands.specs.declared.status.Status.TheVariants as status
-use Rattle.commands.specs.Reports.{IsRunOf, status_of, status_so_far}
+use Rattle.commands.specs.Reports.{IsRunOf, status_so_far}
 use Rattle.commands.specs.Soaks.{IsSummary, TellsSoak}
 use Rattle.commands.specs.Tells.{FitsFile, IsServed, no_fit_line}
 use Rattle.commands.proofs.Reporting.{IsAttached, run_is}

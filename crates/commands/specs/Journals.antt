@@ -1,5 +1,5 @@
 -- What a task tells of a bundle and a journal.
-use Rattle.std.specs.Prelude.{◌≡◌, ℕ, ◌≤◌, ◌⊎◌, List, ◌++◌, Some, decimal, codes}
+use Rattle.std.specs.Prelude.{◌≡◌, ℕ, ◌⊎◌, List, ◌++◌, Some, decimal, codes}
 use Rattle.micro_isa.specs.declared.program.Bundle.{Bundle}
 use Rattle.micro_isa.specs.declared.image.Image.{Image}
 use Rattle.micro_kit.specs.Text.{newline}
@@ -10,7 +10,7 @@ use Rattle.semantics.specs.Machine.{Machine, machine_semantics, machine_open}
 use Rattle.allocate.specs.declared.allocation.Allocation.{Allocation}
 use Rattle.allocate.specs.Allocations.{IsAllocation}
 use Rattle.journal_text.specs.Entries.{entry_words}
-use Rattle.journal_text.specs.Journals.{IsJournal, IsFirstStray}
+use Rattle.journal_text.specs.Journals.{IsJournal, IsFirstStray, AreEntries}
 use Rattle.run_journal.specs.declared.replaying.ReplayFault.{ReplayFault}
 use Rattle.run_journal.specs.declared.replaying.ReplayFault.TheVariants as fault
 use Rattle.run_journal.specs.Replays.{StraysBy, IsRefused}
@@ -47,11 +47,6 @@ abbrev pub TellsStray : ReplayFault → List ℕ → Type 0
 TellsStray (fault.Illegal at written) text = text ≡ illegal_line at written
 TellsStray (fault.Differs at written found) text = text ≡ differs_line at written found
 TellsStray fault.NoMemory text = ⊥
-
--- the lines are these entries and no others
-pub record AreEntries (lines : List ℕ) (entries : List Entry) : Type 0 where
-  pub read : IsJournal lines entries
-  pub alone : (other : List Entry) → IsJournal lines other → other ≡ entries
 
 -- entries that are not legal, and the first that is illegal or differs is told
 pub record IsStray (steps : ℕ) (m : Image) (entries : List Entry) (answer : Status) (text : List ℕ) : Type 0 where

@@ -2,5 +2,6 @@ pub mod StatusCodes
 pub mod Reports
 pub mod Tells
 pub mod Openings
+pub mod GivenBack
 pub mod Soaks
 pub mod Journals

@@ -1,5 +1,6 @@
 -- What a task comes to before a port is asked or handed anything, and what is told in the end.
-use Rattle.std.specs.Prelude.{◌≡◌, ℕ, List, [], Option, Bool}
+use Rattle.std.specs.Prelude.{◌≡◌, ℕ, List, [], length, Option, Bool, Result, IfOk}
+use Rattle.micro_isa.specs.declared.list.NoMemory.{NoMemory}
 use Rattle.micro_isa.specs.declared.program.Bundle.{Bundle}
 use Rattle.micro_isa.specs.declared.image.Image.{Image}
 use Rattle.ports.specs.declared.told.Told.{Told}
@@ -12,7 +13,8 @@ use Rattle.commands.specs.declared.prepared.Opening.{Opening}
 use Rattle.commands.specs.declared.prepared.Prepared.{Prepared}
 use Rattle.commands.specs.declared.prepared.Prepared.TheVariants as prepared
 use Rattle.commands.specs.Reports.{IsReport}
-use Rattle.commands.specs.Tells.{RunTells, TellsOfBundle, TellsOfImage, RunsBundleBy, RunsImageBy, FitsFile, Fits, IsServed}
+use Rattle.commands.specs.GivenBack.{InTheirOrder}
+use Rattle.commands.specs.Tells.{RunTells, TellsOfBundle, TellsOfImage, RunsBundleBy, RunsImageBy, FitsFile, Fits, IsServed, IsRefusal}
 
 -- what is told: whether in round order, with which status, what the ports told before and tell after, and the text
 abbrev pub Telling : Type 1
@@ -58,3 +60,11 @@ pub record ToldOfBundle (task : BundleTask) (b : Bundle) (in_rounds : Bool) (ans
 pub record ToldOfImage (task : ImageTask) (m : Image) (in_rounds : Bool) (answer : Status) (start now : List Told) (text : List ℕ) : Type 0 where
   pub tells : RunsImageBy in_rounds task → TellsOfImage task answer m start now text
   pub served : IsServed answer
+
+-- a run from this opening was brought to an ending with these ports, and this came out: its report, with the status of no refusal,
+-- or that memory was wanting; the ports come back, as many and in their order
+pub record IsReported {P : Type 0} (in_rounds : Bool) (o : Opening) (start now : List Told) (ports ports' : List P) (result : Result Reply NoMemory) : Type 0 where
+  pub report : IfOk result (λ r. IsReport in_rounds (bound_of o.run.engine) o.run.engine.image o.need start now r.status r.text.items)
+  pub goes : IfOk result (λ r. IsRefusal r.status → ⊥)
+  pub as_many : length ports' ≡ length ports
+  pub in_order : InTheirOrder start now

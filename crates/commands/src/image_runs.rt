@@ -3,11 +3,10 @@
 ghost use Rattle.std.specs.Prelude.{◌≡◌, ◌≤◌, IfOk, Some, [], false, length, map, true};
 ghost use Rattle.micro_isa.specs.Formed.{IsFormedImage};
 ghost use Rattle.semantics.specs.Core.{shown_core};
-ghost use Rattle.run_journal.specs.Histories.{run_ending, bound_of};
+ghost use Rattle.run_journal.specs.Histories.{run_ending};
 ghost use Rattle.report_run.specs.Report.{report_text};
-ghost use Rattle.commands.specs.Openings.{IsOpening};
-ghost use Rattle.commands.specs.Reports.{IsReport, status_so_far};
-ghost use Rattle.commands.specs.Tells.{IsRefusal};
+ghost use Rattle.commands.specs.Openings.{IsOpening, IsReported};
+ghost use Rattle.commands.specs.Reports.{status_so_far};
 
 use crate::prepared::Opening;
 use crate::reports::status_so_far;
@@ -43,7 +42,7 @@ pub(crate) fn open_run(
 
 /// The report of a run with these ports, which goes from its opening to an ending in round order, and
 /// the ports.
-#[tactic(auto, using(crate::proofs::Reporting::report_is, crate::proofs::Telling::report_goes))]
+#[tactic(auto, using(crate::proofs::GivenBack::not_reported))]
 pub fn report_in_rounds<P: Port + Send>(
     alloc: Global,
     opening: Opening,
@@ -51,9 +50,7 @@ pub fn report_in_rounds<P: Port + Send>(
 ) -> (Result<Reply, NoMemory>, Vec<P>)
     requires opens { opening.run.entries ≡ [] }
     requires few { length ports.items ≤ MOST_PORTS }
-    ensures report { IfOk result.0 (λ r. IsReport true (bound_of opening.run.engine) opening.run.engine.image opening.need (map P.tells ports.items) (map P.tells result.1.items) r.status r.text.items) }
-    ensures goes { IfOk result.0 (λ r. IsRefusal r.status → ⊥) }
-    ensures as_many { length result.1.items ≡ length ports.items }
+    ensures { IsReported true opening (map P.tells ports.items) (map P.tells result.1.items) ports.items result.1.items result.0 }
 {
     let Opening { mut run, need } = opening;
     let slots = Slots::of(ports);
@@ -65,7 +62,6 @@ pub fn report_in_rounds<P: Port + Send>(
 }
 
 /// The same where each context has a thread of its own.
-#[tactic(auto, using(crate::proofs::Reporting::report_is, crate::proofs::Telling::report_goes))]
 pub fn report_in_threads<P: Port + Send, R: Threads + Wait + Sync, G: Gate + Sync>(
     rt: &R,
     gate: &G,
@@ -75,9 +71,7 @@ pub fn report_in_threads<P: Port + Send, R: Threads + Wait + Sync, G: Gate + Syn
 ) -> (Result<Reply, NoMemory>, Vec<P>)
     requires opens { opening.run.entries ≡ [] }
     requires few { length ports.items ≤ MOST_PORTS }
-    ensures report { IfOk result.0 (λ r. IsReport false (bound_of opening.run.engine) opening.run.engine.image opening.need (map P.tells ports.items) (map P.tells result.1.items) r.status r.text.items) }
-    ensures goes { IfOk result.0 (λ r. IsRefusal r.status → ⊥) }
-    ensures as_many { length result.1.items ≡ length ports.items }
+    ensures { IsReported false opening (map P.tells ports.items) (map P.tells result.1.items) ports.items result.1.items result.0 }
 {
     let Opening { mut run, need } = opening;
     let slots = Slots::of(ports);

@@ -1,13 +1,9 @@
 //! What each task does with a bundle and a journal.
 
-ghost use Rattle.std.specs.Prelude.{◌≡◌, ◌≤◌, IfOk, IfErr, length};
+ghost use Rattle.std.specs.Prelude.{◌≡◌, ◌≤◌, IfOk, length};
 ghost use Rattle.micro_isa.specs.Formed.{IsFormedBundle, IsFormedImage};
-ghost use Rattle.semantics.specs.Entries.{LeadsTo};
-ghost use Rattle.semantics.specs.Machine.{machine_semantics, machine_open};
-ghost use Rattle.engine_core.specs.EngineState.{config_of};
-ghost use Rattle.run_journal.specs.Replays.{Replays, StraysBy, IsRefused};
 ghost use Rattle.commands.specs.Tells.{steps_of_journal, IsServed};
-ghost use Rattle.commands.specs.Journals.{EntriesReplayed, Replayed, TellsOfJournal, FitsJournal, TellsStray, unread_line};
+ghost use Rattle.commands.specs.Journals.{Replayed, TellsOfJournal, FitsJournal, TellsStray, unread_line};
 ghost use Rattle.commands.specs.declared.status.Status.TheVariants as status;
 
 use crate::image_runs::report_of_run;
@@ -16,11 +12,9 @@ use crate::no_fit::no_fit;
 use crate::status::Status;
 use crate::task::{JournalTask, Reply};
 use allocate::{AllocFault, allocate};
-use journal_text::{JournalFault, read_journal};
-use micro_isa::{Bundle, Image, LONGEST_JOURNAL, List, MOST_STEPS, NoMemory};
-use run_journal::{ReplayFault, Run, replay};
+use micro_isa::{Bundle, Image, LONGEST_JOURNAL, MOST_STEPS, NoMemory};
+use run_journal::{ReplayFault, TextFault, replay_text};
 use std::alloc::Global;
-use world::Entry;
 
 /// Does a task with a formed bundle and the text of a journal.
 #[tactic(auto, using(crate::proofs::Replaying::told_with, crate::proofs::Replaying::served_with))]
@@ -83,8 +77,8 @@ fn replay_bundle(
     }
 }
 
-/// The journal is read whole before its first entry is followed.
-#[tactic(auto, using(crate::proofs::Replaying::told_unread, crate::proofs::Replaying::told_read))]
+/// The journal is followed line by line: the report of the run that has its entries, or what strays.
+#[tactic(auto, using(crate::proofs::Replaying::told_unread, crate::proofs::Replaying::told_stray, crate::proofs::Replaying::told_run))]
 fn replay_image(
     alloc: Global,
     image: &Image,
@@ -97,16 +91,19 @@ fn replay_image(
     requires short { length journal.now ≤ LONGEST_JOURNAL }
     ensures { IfOk result (λ r. Replayed steps image.now need journal.now r.status r.text.items) }
 {
-    match read_journal(alloc, journal) {
-        Ok(entries) => match replay_entries(alloc, image, need, entries, steps) {
+    match replay_text(alloc, image, journal, steps) {
+        Ok(run) => match report_of_run(alloc, Some(need), &run) {
             Ok(reply) => Ok(reply),
             Err(NoMemory) => Err(NoMemory),
         },
-        Err(JournalFault::Reading { at }) => match unread(alloc, at) {
+        Err(TextFault::Reading { at }) => match unread(alloc, at) {
             Ok(reply) => Ok(reply),
             Err(NoMemory) => Err(NoMemory),
         },
-        Err(JournalFault::NoMemory) => Err(NoMemory),
+        Err(TextFault::Strays(why)) => match stray(alloc, why) {
+            Ok(reply) => Ok(reply),
+            Err(NoMemory) => Err(NoMemory),
+        },
     }
 }
 
@@ -127,48 +124,6 @@ fn bad_journal(text: Vec<u8>) -> Reply
         status: Status::BadJournal,
         text,
     }
-}
-
-/// The report of the run that has these entries, or the line of the first that strays.
-#[tactic(auto, using(crate::proofs::Replaying::stray_told, crate::proofs::Replaying::report_of_entries))]
-fn replay_entries(
-    alloc: Global,
-    image: &Image,
-    need: u32,
-    entries: List<Entry>,
-    steps: u32,
-) -> Result<Reply, NoMemory>
-    requires formed { IsFormedImage image.now }
-    requires bound { steps ≤ MOST_STEPS }
-    ensures { IfOk result (λ r. EntriesReplayed steps image.now need entries r.status r.text.items) }
-{
-    match followed(alloc, image, entries, steps) {
-        Ok(run) => match report_of_run(alloc, Some(need), &run) {
-            Ok(reply) => Ok(reply),
-            Err(NoMemory) => Err(NoMemory),
-        },
-        Err(why) => match stray(alloc, why) {
-            Ok(reply) => Ok(reply),
-            Err(NoMemory) => Err(NoMemory),
-        },
-    }
-}
-
-/// The run that has these entries, which are let go: the run keeps its own.
-fn followed(
-    alloc: Global,
-    image: &Image,
-    entries: List<Entry>,
-    steps: u32,
-) -> Result<Run, ReplayFault>
-    requires formed { IsFormedImage image.now }
-    requires bound { steps ≤ MOST_STEPS }
-    ensures replays { IfOk result (λ run. Replays run image.now steps entries) }
-    ensures legal { IfOk result (λ run. LeadsTo (machine_semantics image.now) (machine_open image.now steps) entries (config_of run.engine)) }
-    ensures strays { IfErr result (λ why. StraysBy why image.now steps entries) }
-    ensures refused { IfErr result (λ why. IsRefused why image.now steps entries) }
-{
-    replay(alloc, image, entries.as_slice(), steps)
 }
 
 /// The reply to entries that stray.

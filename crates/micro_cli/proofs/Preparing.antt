@@ -1,9 +1,9 @@
 -- From what is said of an input to what a call asks to be written, before and after a run.
-use Rattle.std.proofs.Common.{◌≡◌, ℕ, ◌+◌, List, length, Bool, true, false, Option, Some, None, refl, sym, subst, inl, inr}
+use Rattle.std.proofs.Common.{◌≡◌, ℕ, ◌+◌, arith, List, [], length, Bool, Option, Some, None, refl, sym, subst}
 use Rattle.std.specs.Prelude.{IfSome}
 use Rattle.micro_isa.specs.declared.program.Bundle.{Bundle}
 use Rattle.micro_isa.specs.declared.image.Image.{Image}
-use Rattle.micro_kit.specs.Streams.{Gives, IsWhole}
+use Rattle.micro_kit.specs.Streams.{Gives, GivesAtMost, IsWhole}
 use Rattle.asm_lines.specs.Faults.{At}
 use Rattle.asm_text.specs.Texts.{text_fault, Spells}
 use Rattle.image_load.specs.declared.fault.ImageKind.{ImageKind}
@@ -12,7 +12,6 @@ use Rattle.image_load.specs.Faults.{Causes}
 use Rattle.image_load.specs.Spelling.{Spells as SpellsImage}
 use Rattle.image_load.specs.Loading.{image_fault}
 use Rattle.ports.specs.declared.told.Told.{Told}
-use Rattle.run_journal.specs.Histories.{bound_of}
 use Rattle.soak_gen.specs.Bundles.{generated}
 use Rattle.commands.specs.declared.status.Status.{Status}
 use Rattle.commands.specs.declared.status.Status.TheVariants as status
@@ -27,12 +26,11 @@ use Rattle.commands.specs.declared.task.JournalTask.{JournalTask}
 use Rattle.commands.specs.declared.prepared.Opening.{Opening}
 use Rattle.commands.specs.declared.prepared.Prepared.{Prepared}
 use Rattle.commands.specs.declared.prepared.Prepared.TheVariants as prepared
-use Rattle.commands.specs.Reports.{IsReport}
 use Rattle.commands.specs.Soaks.{TellsSoak}
 use Rattle.commands.specs.Tells.{FitsFile, IsServed}
 use Rattle.commands.specs.Openings.{Telling, TellsAtOnce, TellsInTheEnd, ComesTo, ToldOfBundle, ToldOfImage}
 use Rattle.micro_cli.specs.Lines.{usage_line, limit_of, too_long_line, bad_bundle_line, bad_image_line}
-use Rattle.micro_cli.specs.Answers.{SaysOfJournal, Says, AsksOfInput, Asks}
+use Rattle.micro_cli.specs.Answers.{SaysOfJournal, TookAtMost, most_read}
 use Rattle.micro_cli.specs.Words.{JobRunsBy}
 use Rattle.micro_cli.specs.Preparing.{SaysBy, AsksOfInputBy, AsksBy}
 use Rattle.micro_cli.proofs.Replies.{says_of_bundle, says_of_text_fault, says_of_image, says_of_bytes_fault, asks_of_input, asks_of_length, asks_of_usage, asks_of_number, asks_of_task}
@@ -108,17 +106,27 @@ pub task_comes : (wanted : Option Job) (left left' : Option (List ℕ)) (task : 
 task_comes wanted left left' task p asked comes = comes_to (AsksOfInputBy task left left') (AsksBy wanted left left') p
     (λ in_rounds answer start now text input. record { asks = λ by. asks_of_task answer wanted left left' start now text task asked (input.asks (runs_by wanted task in_rounds asked by)) }) comes
 
--- a reply that is told at once
-asked_at_once : (wanted : Option Job) (left left' : Option (List ℕ)) (in_rounds : Bool) (start : List Told) (r : Reply) → IfSome wanted (JobRunsBy in_rounds) → TellsAtOnce (AsksBy wanted left left') r → Asks r.status wanted left left' start start r.text.items
-asked_at_once wanted left left' in_rounds start r by comes = (comes.told in_rounds start).asks by
+-- how many bytes were taken
 
--- the report of a run that came to its ending
-pub asked_in_the_end : (wanted : Option Job) (left left' : Option (List ℕ)) (in_rounds : Bool) (start now : List Told) (o : Opening) (answer : Status) (text : List ℕ) → IfSome wanted (JobRunsBy in_rounds) → TellsInTheEnd (AsksBy wanted left left') o → IsReport in_rounds (bound_of o.run.engine) o.run.engine.image o.need start now answer text → Asks answer wanted left left' start now text
-asked_in_the_end wanted left left' in_rounds start now o answer text by comes report = (comes.told in_rounds start now answer text report).asks by
+pub took_none : (most : ℕ) (left : Option (List ℕ)) → TookAtMost most left left
+took_none most left = record { taken = []; given = by left; few = omega arith }
+  where
+    by : (o : Option (List ℕ)) → Gives o [] o
+    by None = refl
+    by (Some rest) = refl
 
--- the same of a reply, by each order
-pub asked_at_once_in_rounds : (wanted : Option Job) (left left' : Option (List ℕ)) (start : List Told) (r : Reply) → IfSome wanted (JobRunsBy true) → TellsAtOnce (AsksBy wanted left left') r → Asks r.status wanted left left' start start r.text.items
-asked_at_once_in_rounds wanted left left' start r by comes = asked_at_once wanted left left' true start r by comes
+pub took_whole : (limit : ℕ) (left left' : Option (List ℕ)) (input : List ℕ) → IsWhole left input left' limit → TookAtMost (limit + 1) left left'
+took_whole limit left left' input whole = let few = whole.2 in record { taken = input; given = whole.0; few = omega (arith, few) }
 
-pub asked_at_once_in_threads : (wanted : Option Job) (left left' : Option (List ℕ)) (start : List Told) (r : Reply) → IfSome wanted (JobRunsBy false) → TellsAtOnce (AsksBy wanted left left') r → Asks r.status wanted left left' start start r.text.items
-asked_at_once_in_threads wanted left left' start r by comes = asked_at_once wanted left left' false start r by comes
+pub took_some : (limit : ℕ) (left left' : Option (List ℕ)) → GivesAtMost left limit left' → TookAtMost (limit + 1) left left'
+took_some limit left left' some = let few = some.2 in record { taken = some.0; given = some.1; few = omega (arith, few) }
+
+pub took_more : (most : ℕ) (left left' : Option (List ℕ)) → GivesAtMost left most left' → TookAtMost most left left'
+took_more most left left' some = record { taken = some.0; given = some.1; few = some.2 }
+
+pub took_long : (most : ℕ) (left left' : Option (List ℕ)) (taken : List ℕ) → Gives left taken left' → length taken ≡ most → TookAtMost most left left'
+took_long most left left' taken given count = record { taken = taken; given = given; few = omega (arith, count) }
+
+-- what was taken for the task that the words ask for
+pub took_of_task : (wanted : Option Job) (task : Task) (left left' : Option (List ℕ)) → wanted ≡ Some (OfInput task) → TookAtMost (limit_of task + 1) left left' → TookAtMost (most_read wanted) left left'
+took_of_task wanted task left left' asked taken = subst (λ w. TookAtMost (most_read w) left left') (sym asked) taken

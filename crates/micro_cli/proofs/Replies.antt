@@ -11,7 +11,7 @@ use Rattle.commands.specs.declared.status.Status.TheVariants as status
 use Rattle.commands.specs.declared.task.Job.{Job}
 use Rattle.commands.specs.declared.task.Job.TheVariants.{OfInput, Soak}
 use Rattle.commands.specs.declared.task.Task.{Task}
-use Rattle.commands.specs.declared.task.Task.TheVariants.{OfBundle, OfImage, OfJournal}
+use Rattle.commands.specs.declared.task.Task.TheVariants.{OfBundle, OfImage}
 use Rattle.commands.specs.declared.task.BundleTask.{BundleTask}
 use Rattle.commands.specs.declared.task.ImageTask.{ImageTask}
 use Rattle.soak_gen.specs.Bundles.{generated}

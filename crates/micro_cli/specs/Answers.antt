@@ -91,6 +91,18 @@ Says (OfBundle task) answer start now input text = TellsTextFault answer input t
 Says (OfImage task) answer start now input text = TellsBytesFault answer input text ⊎ TellsImage task answer start now input text
 Says (OfJournal task) answer start now input text = SaysOfJournal task answer input text
 
+-- this many bytes were read at most
+pub record TookAtMost (most : ℕ) (left left' : Option (List ℕ)) : Type 0 where
+  pub taken : List ℕ
+  pub given : Gives left taken left'
+  pub few : length taken ≤ most
+
+-- so many bytes are read at most for a job: one more than a task's input may have; nothing for another job
+abbrev pub most_read : Option Job → ℕ
+most_read None = 0
+most_read (Some (OfInput task)) = limit_of task + 1
+most_read (Some (Soak number)) = 0
+
 -- the input was read to its end, and this is asked to be written for it
 pub record TellsInput (task : Task) (answer : Status) (left left' : Option (List ℕ)) (start now : List Told) (text : List ℕ) : Type 0 where
   pub input : List ℕ

@@ -19,8 +19,9 @@ use Rattle.journal_text.specs.Journals.{bundle_part, journal_part}
 use Rattle.micro_isa.specs.declared.limits.TheConstants.{LONGEST_BUNDLE}
 use Rattle.soak_gen.specs.Bundles.{generated}
 use Rattle.commands.specs.Tells.{Fits, FitsFile, IsServed, IsRefusal, runs_image}
+use Rattle.commands.specs.GivenBack.{InTheirOrder}
 use Rattle.micro_cli.specs.Lines.{limit_of}
-use Rattle.micro_cli.specs.Answers.{Asks}
+use Rattle.micro_cli.specs.Answers.{Asks, TookAtMost, most_read}
 
 -- what a call finds and leaves outside: the bytes that the source has left and the bytes that the sink took, where told,
 -- how often each failed, and what the ports tell
@@ -80,15 +81,16 @@ pub record CouldNotRead (answer : Status) (wanted : Option Job) (o : Outside) : 
   pub taken : GivesAtMost o.left (limit_of task) o.left'
   pub silent : o.wrote' ≡ o.wrote
 
--- memory was wanting, which is always free; nothing was written
-pub record WantedMemory (answer : Status) (o : Outside) : Type 0 where
+-- memory was wanting, which is always free; no more was read than the job reads at most, and nothing was written
+pub record WantedMemory (answer : Status) (wanted : Option Job) (o : Outside) : Type 0 where
   pub answered : answer ≡ status.NoMemory
+  pub taken : TookAtMost (most_read wanted) o.left o.left'
   pub silent : o.wrote' ≡ o.wrote
 
 -- what a call with this status leaves, whose words ask for this job
 abbrev pub Finishes : Status → Option Job → Outside → Type 0
 Finishes answer wanted o =
-    WroteAll answer wanted o ⊎ (WasCutShort answer wanted o ⊎ (CouldNotRead answer wanted o ⊎ WantedMemory answer o))
+    WroteAll answer wanted o ⊎ (WasCutShort answer wanted o ⊎ (CouldNotRead answer wanted o ⊎ WantedMemory answer wanted o))
 
 -- the words ask for no run of an image with ports
 abbrev pub IsAside : Option Job → Type 0
@@ -145,3 +147,13 @@ HasNoCause wanted o = InputFits wanted o ⊎ NumberFits wanted o
 -- the task was served and its whole text written; or memory was wanting
 abbrev pub IsServedOrFree : Status → Type 0
 IsServedOrFree answer = IsServed answer ⊎ (answer ≡ status.NoMemory)
+
+-- what a call with this status promises, whose words ask for this job: by the status what it leaves; where nothing outside is a
+-- cause for a refusal, the job is served and its whole text written; the ports come back, as many and in their order, and where no
+-- run of an image is asked for, or the call was refused, they are the very ones
+pub record IsFinish {P : Type 0} (answer : Status) (wanted : Option Job) (o : Outside) (ports ports' : List P) : Type 0 where
+  pub finishes : Finishes answer wanted o
+  pub complete : HasNoCause wanted o → IsServedOrFree answer
+  pub as_many : length ports' ≡ length ports
+  pub in_order : InTheirOrder o.ports o.ports'
+  pub untouched : LeavesPorts wanted answer → ports' ≡ ports

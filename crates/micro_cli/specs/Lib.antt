@@ -4,3 +4,4 @@ pub mod Answers
 pub mod Calls
 pub mod Silences
 pub mod Preparing
+pub mod Written

@@ -1,13 +1,13 @@
-ghost use Rattle.std.specs.Prelude.{◌≡◌, ◌≤◌, IfSome, false, length, map, string_bytes, true};
+ghost use Rattle.std.specs.Prelude.{◌≤◌, IfSome, false, length, map, string_bytes, true};
 ghost use Rattle.micro_cli.specs.Words.{job_asked, IsBoundedJob, JobRunsBy};
-ghost use Rattle.micro_cli.specs.Calls.{Finishes, HasNoCause, IsServedOrFree, LeavesPorts, outside};
+ghost use Rattle.micro_cli.specs.Calls.{IsFinish, outside};
 
-use crate::command::Silence;
-use crate::ordered_replies::reply_in_rounds;
+use crate::command::prepare_job;
+use crate::telling::{status_of_silence, tell, tell_report};
 use crate::words::job_asked;
-use commands::{Job, Status};
+use commands::{Job, Prepared, Status, report_in_rounds};
 use micro_isa::{MOST_PORTS, NoMemory};
-use micro_kit::{Sink, Source, write_all};
+use micro_kit::{Sink, Source};
 use ports::Port;
 use std::alloc::Global;
 
@@ -23,8 +23,7 @@ pub struct Finish {
 /// round order: it reads the input, does what the words ask for with the bundle or image that it
 /// spells, and writes the answer or the line of a refusal. Only the run of an image asks the ports
 /// or hands them anything. `docs/FORMATS.md` has the texts, and `docs/DEFINITIONS.md` what each
-/// status says.
-#[tactic(auto, using(crate::proofs::Finishing::no_memory))]
+/// status says: `IsFinish`, which `micro` promises too.
 pub fn plain_call<I: Source, O: Sink>(
     alloc: Global,
     words: &[String],
@@ -33,14 +32,7 @@ pub fn plain_call<I: Source, O: Sink>(
     ports: Vec<Box<dyn Port + Send>>,
 ) -> Finish
     requires few { length ports.items ≤ MOST_PORTS }
-    ensures finishes { Finishes result.status (job_asked false (map string_bytes words.now)) (outside I.left I.faults O.wrote O.faults ⟦<Box<dyn Port + Send> as Port>⟧.tells input.old input.new output.old output.new ports.items result.ports.items) }
-
-    // Where nothing outside gives a cause for a refusal, the job is served and its whole text written.
-    ensures complete { HasNoCause (job_asked false (map string_bytes words.now)) (outside I.left I.faults O.wrote O.faults ⟦<Box<dyn Port + Send> as Port>⟧.tells input.old input.new output.old output.new ports.items result.ports.items) → IsServedOrFree result.status }
-    ensures as_many { length result.ports.items ≡ length ports.items }
-
-    // What runs no image, and what is refused, leaves each port as it was.
-    ensures untouched { LeavesPorts (job_asked false (map string_bytes words.now)) result.status → result.ports ≡ ports }
+    ensures { IsFinish result.status (job_asked false (map string_bytes words.now)) (outside I.left I.faults O.wrote O.faults ⟦<Box<dyn Port + Send> as Port>⟧.tells input.old input.new output.old output.new ports.items result.ports.items) ports.items result.ports.items }
 {
     match job_asked(alloc, words, false) {
         Ok(wanted) => {
@@ -65,36 +57,14 @@ pub(crate) fn call_in_rounds<I: Source, O: Sink, P: Port + Send>(
     requires bounded { IfSome wanted IsBoundedJob }
     requires order { IfSome wanted (JobRunsBy true) }
     requires few { length ports.items ≤ MOST_PORTS }
-    ensures finishes { Finishes result.0 wanted (outside I.left I.faults O.wrote O.faults P.tells input.old input.new output.old output.new ports.items result.1.items) }
-    ensures complete { HasNoCause wanted (outside I.left I.faults O.wrote O.faults P.tells input.old input.new output.old output.new ports.items result.1.items) → IsServedOrFree result.0 }
-    ensures as_many { length result.1.items ≡ length ports.items }
-    ensures untouched { LeavesPorts wanted result.0 → result.1 ≡ ports }
+    ensures { IsFinish result.0 wanted (outside I.left I.faults O.wrote O.faults P.tells input.old input.new output.old output.new ports.items result.1.items) ports.items result.1.items }
 {
-    serve_in_rounds(alloc, wanted, input, output, ports)
-}
-
-#[tactic(auto, using(crate::proofs::Finishing::written_whole, crate::proofs::Finishing::cut_short, crate::proofs::Finishing::not_read, crate::proofs::Finishing::no_memory))]
-fn serve_in_rounds<I: Source, O: Sink, P: Port + Send>(
-    alloc: Global,
-    wanted: Option<Job>,
-    input: &mut I,
-    output: &mut O,
-    ports: Vec<P>,
-) -> (Status, Vec<P>)
-    requires bounded { IfSome wanted IsBoundedJob }
-    requires order { IfSome wanted (JobRunsBy true) }
-    requires few { length ports.items ≤ MOST_PORTS }
-    ensures finishes { Finishes result.0 wanted (outside I.left I.faults O.wrote O.faults P.tells input.old input.new output.old output.new ports.items result.1.items) }
-    ensures as_many { length result.1.items ≡ length ports.items }
-    ensures untouched { LeavesPorts wanted result.0 → result.1 ≡ ports }
-{
-    let (reply, ports) = reply_in_rounds(alloc, wanted, input, ports);
-    match reply {
-        Ok(reply) => match write_all(output, &reply.text) {
-            Ok(()) => (reply.status, ports),
-            Err(_) => (Status::WriteFault, ports),
-        },
-        Err(Silence::ReadFault) => (Status::ReadFault, ports),
-        Err(Silence::NoMemory) => (Status::NoMemory, ports),
+    match prepare_job(alloc, wanted, input) {
+        Ok(Prepared::Reply(reply)) => (tell(output, &reply), ports),
+        Ok(Prepared::Run(opening)) => {
+            let (report, ports) = report_in_rounds(alloc, opening, ports);
+            (tell_report(output, report), ports)
+        }
+        Err(why) => (status_of_silence(why), ports),
     }
 }

@@ -1,9 +1,10 @@
 //! What a call comes to before a port is asked: from the job and the input to a reply or a run.
 
-ghost use Rattle.std.specs.Prelude.{◌≡◌, ◌≤◌, IfOk, IfErr, IfSome, false, length};
+ghost use Rattle.std.specs.Prelude.{◌≡◌, ◌≤◌, ◌+◌, IfOk, IfErr, IfSome, false, length};
 ghost use Rattle.commands.specs.Openings.{ComesTo, IsReply};
 ghost use Rattle.commands.specs.Tells.{IsBounded, runs_image};
 ghost use Rattle.commands.specs.declared.status.Status.TheVariants as status;
+ghost use Rattle.micro_cli.specs.Answers.{TookAtMost, most_read};
 ghost use Rattle.micro_cli.specs.Calls.{IsAside};
 ghost use Rattle.micro_cli.specs.Words.{IsBoundedJob};
 ghost use Rattle.micro_cli.specs.Preparing.{SaysBy, AsksOfInputBy, AsksBy};
@@ -27,7 +28,7 @@ pub(crate) enum Silence {
 }
 
 /// What the job that the words ask for comes to for the input.
-#[tactic(auto, using(crate::proofs::Preparing::usage_comes, crate::proofs::Preparing::number_comes, crate::proofs::Preparing::task_comes, crate::proofs::Replies::silent_of_words))]
+#[tactic(auto, using(crate::proofs::Preparing::usage_comes, crate::proofs::Preparing::number_comes, crate::proofs::Preparing::task_comes, crate::proofs::Replies::silent_of_words, crate::proofs::Preparing::took_none, crate::proofs::Preparing::took_of_task))]
 pub(crate) fn prepare_job<I: Source>(
     alloc: Global,
     wanted: Option<Job>,
@@ -37,6 +38,7 @@ pub(crate) fn prepare_job<I: Source>(
     ensures comes { IfOk result (ComesTo (AsksBy wanted (I.left input.old) (I.left input.new))) }
     ensures silent { IfErr result (λ why. IsSilent why wanted (I.left input.old) (I.left input.new) (I.faults input.old) (I.faults input.new)) }
     ensures aside { IsAside wanted → IfOk result IsReply }
+    ensures taken { TookAtMost (most_read wanted) (I.left input.old) (I.left input.new) }
 {
     match wanted {
         Some(Job::OfInput(task)) => match prepare_input(alloc, task, input) {
@@ -67,12 +69,13 @@ fn usage(alloc: Global) -> Result<Reply, NoMemory>
 }
 
 /// Reads the input to its end, for what the task comes to.
-#[tactic(auto, using(crate::proofs::Preparing::input_comes, crate::proofs::Preparing::length_comes))]
+#[tactic(auto, using(crate::proofs::Preparing::input_comes, crate::proofs::Preparing::length_comes, crate::proofs::Preparing::took_whole, crate::proofs::Preparing::took_some, crate::proofs::Preparing::took_more, crate::proofs::Preparing::took_long))]
 fn prepare_input<I: Source>(alloc: Global, task: Task, input: &mut I) -> Result<Prepared, Silence>
     requires bounded { IsBounded task }
     ensures comes { IfOk result (ComesTo (AsksOfInputBy task (I.left input.old) (I.left input.new))) }
     ensures silent { IfErr result (λ why. FailsToRead task why (I.left input.old) (I.left input.new) (I.faults input.old) (I.faults input.new)) }
     ensures aside { runs_image task ≡ false → IfOk result IsReply }
+    ensures taken { TookAtMost (limit_of task + 1) (I.left input.old) (I.left input.new) }
 {
     let limit = limit_of(task);
     match read_all(alloc, input, limit) {

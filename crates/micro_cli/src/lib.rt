@@ -7,9 +7,7 @@ mod command;
 mod image_replies;
 mod journal_replies;
 mod lines;
-mod ordered_replies;
-#[cfg(test)]
-mod tests;
+mod telling;
 mod thread_call;
 mod words;
 

@@ -1,9 +1,20 @@
-use Rattle.micro_cli.specs.Calls.{outside}
-use Rattle.micro_cli.proofs.Finishing.{completes}
+use Rattle.std.proofs.Common.{rules, refl, true}
+use Rattle.commands.specs.Openings.{TellsAtOnce, TellsInTheEnd}
+use Rattle.micro_cli.specs.Calls.{IsAside}
+use Rattle.micro_cli.specs.Preparing.{AsksBy}
+use Rattle.micro_cli.proofs.Finishing.{at_once, in_the_end, finished_silent}
 use Rattle.micro_cli.proofs.call.call_in_rounds.Goals as goal
 
-pub returns-clause-complete : goal.returns-clause-complete
-returns-clause-complete g c =
-    completes c.serve_in_rounds.result.0 c.args.wanted
-    (outside g.I.Source.left g.I.Source.faults g.O.Sink.wrote g.O.Sink.faults g.P.Port.tells c.args.input.now c.serve_in_rounds.new.input c.args.output.now c.serve_in_rounds.new.output c.args.ports.items c.serve_in_rounds.result.1.items)
-    c.serve_in_rounds.ensures.finishes
+pub returns-in-Ok-Reply : goal.returns-in-Ok-Reply
+returns-in-Ok-Reply g c =
+    let comes : TellsAtOnce (AsksBy c.args.wanted (g.I.Source.left c.args.input.now) (g.I.Source.left c.prepare_job.new.input)) c.in-Ok-Reply.reply = search rules in
+    at_once c.in-Ok-Reply.reply c.tell.result c.args.wanted _ c.args.ports.items comes refl c.tell.ensures
+
+pub returns-in-Ok-Run : goal.returns-in-Ok-Run
+returns-in-Ok-Run g c =
+    let comes : TellsInTheEnd (AsksBy c.args.wanted (g.I.Source.left c.args.input.now) (g.I.Source.left c.prepare_job.new.input)) c.in-Ok-Run.opening = search rules in
+    let runs : IsAside c.args.wanted → ⊥ = search rules in
+    in_the_end true c.in-Ok-Run.opening c.report_in_rounds-report.result.0 c.tell_report.result c.args.wanted _ c.args.ports.items c.report_in_rounds-report.result.1.items c.report_in_rounds-report.ensures c.requires.order runs comes c.prepare_job.ensures.taken c.tell_report.ensures
+
+pub returns-in-Err : goal.returns-in-Err
+returns-in-Err g c = finished_silent c.in-Err.why c.status_of_silence.result c.args.wanted _ c.args.ports.items c.in-Err.ensures.silent c.prepare_job.ensures.taken refl refl c.status_of_silence.ensures
