@@ -10,6 +10,3 @@ mod row;
 mod typed;
 
 pub use bundle::print_bundle;
-
-#[cfg(test)]
-mod tests;

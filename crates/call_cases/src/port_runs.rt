@@ -2,9 +2,9 @@
 
 ghost use Rattle.ports.specs.Answers.{closes_for_good};
 
+use crate::calls::{sink_of, source_of, words_of};
 use micro_cli::{Status, plain_call};
 use micro_isa::MOST_PORTS;
-use micro_kit::{MemSink, MemSource};
 use ports::{Given, Polled, Port, Script};
 use std::alloc::Global;
 use std::test::Fail;
@@ -25,31 +25,17 @@ const ECHO: &[u8] =
 /// Zeros go out to port 0.
 const NOUGHTS: &[u8] = b"file 1\noutput tx port 0\ncontext a\nloop:\nsend tx, x\njmp loop\n";
 
-fn words_of(alloc: Global, steps: &str) -> Result<Vec<String>, Fail> {
-    let mut words = Vec::new(alloc);
-    words.push(String::from_str(alloc, "run")?)?;
-    words.push(String::from_str(alloc, steps)?)?;
-    Ok(words)
-}
-
 /// Whether a call with these ports gives as many back, and has the status and the text of its row.
 fn calls(alloc: Global, row: Row, ports: Vec<Box<dyn Port + Send>>) -> Result<bool, Fail> {
     let count = ports.len();
     if count > MOST_PORTS {
         return Err("few ports".into());
     }
-    let words = words_of(alloc, row.steps)?;
-    let mut source = MemSource::of(Vec::from_slice(alloc, row.bundle)?, 64, Vec::new(alloc));
-    let mut sink = sink_of(alloc)?;
+    let words = words_of(alloc, &["run", row.steps])?;
+    let mut source = source_of(alloc, row.bundle, &[])?;
+    let mut sink = sink_of(alloc, &[])?;
     let finish = plain_call(alloc, &words, &mut source, &mut sink, ports);
     Ok(finish.ports.len() == count && finish.status == row.status && sink.wrote_bytes() == row.text)
-}
-
-fn sink_of(alloc: Global) -> Result<MemSink, Fail> {
-    match MemSink::of(alloc, 64, Vec::new(alloc), 1000) {
-        Ok(sink) => Ok(sink),
-        Err(_) => Err("ample memory".into()),
-    }
 }
 
 /// Whether a call with one port that answers so is as its row says.

@@ -8,6 +8,3 @@ mod split;
 
 pub use meaning::{Meaning, Turns, Verb};
 pub use reading::read_words;
-
-#[cfg(test)]
-mod tests;

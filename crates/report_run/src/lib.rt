@@ -8,6 +8,3 @@ mod soak;
 
 pub use report::{Outcome, print_report};
 pub use soak::print_soak;
-
-#[cfg(test)]
-mod tests;

@@ -1,5 +1,7 @@
-use super::*;
-use asm_text::read_bundle;
+//! Canonical texts.
+
+use crate::texts::bundle_of;
+use asm_print::print_bundle;
 use std::alloc::Global;
 use std::test::Fail;
 
@@ -93,25 +95,21 @@ _:
     ),
 ];
 
-fn canonical(alloc: Global, text: &[u8]) -> Result<Vec<u8>, Fail> {
-    if 2097152 < text.len() {
-        return Err(Fail::from("a text within the limit"));
-    }
-    let Ok(bundle) = read_bundle(alloc, text) else {
-        return Err(Fail::from("a text without a fault"));
-    };
-    match print_bundle(alloc, &bundle) {
-        Ok(text) => Ok(text),
-        Err(_) => Err(Fail::from("ample memory")),
-    }
+/// Whether this is the canonical form of a text.
+fn is_canonical(alloc: Global, text: &[u8], form: &[u8]) -> Result<bool, Fail> {
+    let bundle = bundle_of(alloc, text)?;
+    Ok(print_bundle(alloc, &bundle)?.as_slice() == form)
+}
+
+/// Whether this is the canonical form of a text, and its own.
+fn is_form(alloc: Global, text: &[u8], form: &[u8]) -> Result<bool, Fail> {
+    Ok(is_canonical(alloc, text, form)? && is_canonical(alloc, form, form)?)
 }
 
 #[test]
 fn prints_each_line_in_its_form(rt: HostRuntime) -> Result<(), Fail> {
-    let alloc = rt.alloc();
-    for (text, form) in TEXTS {
-        assert_eq!(rt; canonical(alloc, text)?.as_slice(), form);
-        assert_eq!(rt; canonical(alloc, form)?.as_slice(), form);
+    for (text, form) in &TEXTS {
+        assert!(rt; is_form(rt.alloc(), text, form)?);
     }
     Ok(())
 }

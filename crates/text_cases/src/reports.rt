@@ -1,6 +1,8 @@
-use super::*;
+//! Reports of runs, and the lines of a journal.
+
 use journal_text::put_entry;
 use micro_isa::{Channel, Code, Image, Instr, List, PReg, Range, Setting, Word};
+use report_run::{Outcome, print_report};
 use std::alloc::Global;
 use std::test::Fail;
 use world::{End, Entry, Output, Phase, SegmentEnd, Trap, View};
@@ -61,43 +63,62 @@ const FIRST: [Entry; 2] = [
     },
 ];
 
-#[test]
-fn reports_a_run_at_the_exact_fit(rt: HostRuntime) -> Result<(), Fail> {
-    let alloc = rt.alloc();
+/// Whether this is what is reported of a run.
+fn is_reported(
+    alloc: Global,
+    need: Option<u32>,
+    image: &Image,
+    entries: &[Entry],
+    last: &Outcome,
+    want: &[u8],
+) -> Result<bool, Fail> {
+    let channels = &image.setting.channels;
+    let text = print_report(alloc, need, Some(image), channels, entries, last)?;
+    Ok(text.as_slice() == want)
+}
+
+/// One context, whose five words are counted, over two shared registers.
+fn first_image(alloc: Global) -> Result<Image, Fail> {
     let mut contexts = Vec::new(alloc);
     contexts.push(code(alloc, 0, &[true; 5])?)?;
     let mut channels = Vec::new(alloc);
     channels.push(Channel::Output { port: None })?;
-    let image = image(contexts, channels, 2);
-    let view = View {
+    Ok(image(contexts, channels, 2))
+}
+
+const FIVE: [Output; 1] = [Output {
+    channel: 0,
+    word: 5,
+}];
+
+fn first_view(alloc: Global) -> Result<View, Fail> {
+    Ok(View {
         memory: List::new(alloc),
         left: lists(alloc, &[&[]])?,
         rings: lists(alloc, &[&[]])?,
         plugged: list(alloc, &[false])?,
-        outputs: list(
-            alloc,
-            &[Output {
-                channel: 0,
-                word: 5,
-            }],
-        )?,
+        outputs: list(alloc, &FIVE)?,
         steps: 5,
         phases: list(alloc, &[Phase::Halted])?,
-    };
-    let last = Outcome {
-        view,
+    })
+}
+
+fn first_outcome(alloc: Global) -> Result<Outcome, Fail> {
+    Ok(Outcome {
+        view: first_view(alloc)?,
         file: Some(list(alloc, &[5, 3])?),
         ending: Some(End::Finished),
-    };
-    let channels = &image.setting.channels;
-    let text = print_report(alloc, Some(2), Some(&image), channels, &FIRST, &last).expect(
-        &rt,
-        "ample memory",
-    );
-    assert!(rt;
-        text.as_slice()
-            == b"need 2\nbudget private 0 shared 2\nglue 0\nrun 0 4 send\nrun 0 1 halt\noutput 0 5\ncontext 0 halted\nfile 5 3\nsteps 5\nend finished\n".as_slice()
-    );
+    })
+}
+
+const FIRST_REPORT: &[u8] =
+    b"need 2\nbudget private 0 shared 2\nglue 0\nrun 0 4 send\nrun 0 1 halt\noutput 0 5\ncontext 0 halted\nfile 5 3\nsteps 5\nend finished\n";
+
+#[test]
+fn reports_a_run_at_the_exact_fit(rt: HostRuntime) -> Result<(), Fail> {
+    let image = first_image(rt.alloc())?;
+    let last = first_outcome(rt.alloc())?;
+    assert!(rt; is_reported(rt.alloc(), Some(2), &image, &FIRST, &last, FIRST_REPORT)?);
     Ok(())
 }
 
@@ -157,70 +178,80 @@ fn channels(alloc: Global) -> Result<Vec<Channel>, Fail> {
     Ok(channels)
 }
 
-fn view(alloc: Global) -> Result<View, Fail> {
-    let outputs = [
-        Output {
-            channel: 4,
-            word: 9,
-        },
-        Output {
-            channel: 4,
-            word: 10,
-        },
-    ];
+const SENT: [Output; 2] = [
+    Output {
+        channel: 4,
+        word: 9,
+    },
+    Output {
+        channel: 4,
+        word: 10,
+    },
+];
+
+fn every_view(alloc: Global) -> Result<View, Fail> {
     Ok(View {
         memory: list(alloc, &[0, 9, 0, 1])?,
         left: lists(alloc, &[&[], &[4], &[], &[], &[]])?,
         rings: lists(alloc, &[&[8], &[5, 6], &[], &[], &[]])?,
         plugged: list(alloc, &[false; 5])?,
-        outputs: list(alloc, &outputs)?,
+        outputs: list(alloc, &SENT)?,
         steps: 1048576,
         phases: list(alloc, &PHASES)?,
     })
 }
 
-#[test]
-fn reports_every_kind_of_line(rt: HostRuntime) -> Result<(), Fail> {
-    let alloc = rt.alloc();
+/// Two contexts, some of whose words are not counted.
+fn every_image(alloc: Global) -> Result<Image, Fail> {
     let mut contexts = Vec::new(alloc);
     contexts.push(code(alloc, 1, &[true, false, true])?)?;
     contexts.push(code(alloc, 2, &[false, false])?)?;
-    let image = image(contexts, channels(alloc)?, 4);
-    let last = Outcome {
-        view: view(alloc)?,
+    Ok(image(contexts, channels(alloc)?, 4))
+}
+
+fn every_outcome(alloc: Global) -> Result<Outcome, Fail> {
+    Ok(Outcome {
+        view: every_view(alloc)?,
         file: Some(list(alloc, &[0, 4294967295])?),
         ending: None,
-    };
-    let channels = &image.setting.channels;
-    let text = print_report(alloc, None, Some(&image), channels, &EVERY, &last).expect(
-        &rt,
-        "ample memory",
-    );
-    assert!(rt;
-        text.as_slice()
-            == b"budget private 1 2 shared 4\nglue 3\nunplug 2\nrun 3 12 address\nfeed 1 4294967295\nrun 10 0 divide\nrun 1 0 bound\noutput 2\noutput 4 9 10\nqueue 0 8\nqueue 1 4 5 6\nmemory 1 9\nmemory 3 1\ncontext 0 ready\ncontext 1 due 7\ncontext 2 receive 1\ncontext 3 send 0 8\ncontext 4 halted\ncontext 5 divide 6\ncontext 6 address 11\nfile 0 4294967295\nsteps 1048576\nend open\n".as_slice()
-    );
+    })
+}
+
+const EVERY_REPORT: &[u8] =
+    b"budget private 1 2 shared 4\nglue 3\nunplug 2\nrun 3 12 address\nfeed 1 4294967295\nrun 10 0 divide\nrun 1 0 bound\noutput 2\noutput 4 9 10\nqueue 0 8\nqueue 1 4 5 6\nmemory 1 9\nmemory 3 1\ncontext 0 ready\ncontext 1 due 7\ncontext 2 receive 1\ncontext 3 send 0 8\ncontext 4 halted\ncontext 5 divide 6\ncontext 6 address 11\nfile 0 4294967295\nsteps 1048576\nend open\n";
+
+#[test]
+fn reports_every_kind_of_line(rt: HostRuntime) -> Result<(), Fail> {
+    let image = every_image(rt.alloc())?;
+    let last = every_outcome(rt.alloc())?;
+    assert!(rt; is_reported(rt.alloc(), None, &image, &EVERY, &last, EVERY_REPORT)?);
     Ok(())
 }
 
+/// The line of a segment of one step that ended so.
+fn end_line(alloc: Global, end: SegmentEnd) -> Result<Vec<u8>, Fail> {
+    let mut text = Vec::new(alloc);
+    let entry = Entry::Ran {
+        context: 0,
+        steps: 1,
+        end,
+    };
+    put_entry(&mut text, &entry)?;
+    Ok(text)
+}
+
+const ENDS: [(SegmentEnd, &[u8]); 4] = [
+    (SegmentEnd::Load, b"run 0 1 load\n"),
+    (SegmentEnd::Store, b"run 0 1 store\n"),
+    (SegmentEnd::Yield, b"run 0 1 yield\n"),
+    (SegmentEnd::Recv, b"run 0 1 recv\n"),
+];
+
 #[test]
 fn names_each_end(rt: HostRuntime) -> Result<(), Fail> {
-    let alloc = rt.alloc();
-    let mut text = Vec::new(alloc);
-    for (end, line) in [
-        (SegmentEnd::Load, b"run 0 1 load\n".as_slice()),
-        (SegmentEnd::Store, b"run 0 1 store\n"),
-        (SegmentEnd::Yield, b"run 0 1 yield\n"),
-        (SegmentEnd::Recv, b"run 0 1 recv\n"),
-    ] {
-        text.clear();
-        let entry = Entry::Ran {
-            context: 0,
-            steps: 1,
-            end,
-        };
-        put_entry(&mut text, &entry).expect(&rt, "ample memory");
-        assert!(rt; text.as_slice() == line);
+    for (end, line) in &ENDS {
+        let text = end_line(rt.alloc(), *end)?;
+        assert!(rt; text.as_slice() == *line);
     }
     Ok(())
 }
@@ -237,26 +268,27 @@ fn empty_view(alloc: Global) -> View {
     }
 }
 
-#[test]
-fn names_each_ending(rt: HostRuntime) -> Result<(), Fail> {
-    let alloc = rt.alloc();
-    let channels = List::new(alloc);
-    let mut last = Outcome {
+/// The report of a run of nothing that ended so.
+fn ending_lines(alloc: Global, ending: End) -> Result<Vec<u8>, Fail> {
+    let last = Outcome {
         view: empty_view(alloc),
         file: None,
-        ending: None,
+        ending: Some(ending),
     };
-    for (ending, lines) in [
-        (End::Stuck, b"steps 0\nend stuck\n".as_slice()),
-        (End::Bound, b"steps 0\nend bound\n"),
-        (End::Idle, b"steps 0\nend idle\n"),
-    ] {
-        last.ending = Some(ending);
-        let text = print_report(alloc, None, None, &channels, &[], &last).expect(
-            &rt,
-            "ample memory",
-        );
-        assert!(rt; text.as_slice() == lines);
+    Ok(print_report(alloc, None, None, &List::new(alloc), &[], &last)?)
+}
+
+const ENDINGS: [(End, &[u8]); 3] = [
+    (End::Stuck, b"steps 0\nend stuck\n"),
+    (End::Bound, b"steps 0\nend bound\n"),
+    (End::Idle, b"steps 0\nend idle\n"),
+];
+
+#[test]
+fn names_each_ending(rt: HostRuntime) -> Result<(), Fail> {
+    for (ending, lines) in &ENDINGS {
+        let text = ending_lines(rt.alloc(), *ending)?;
+        assert!(rt; text.as_slice() == *lines);
     }
     Ok(())
 }
