@@ -1,6 +1,7 @@
 -- The pressures of a program, and the need of several.
 use Rattle.std.specs.Prelude.{ℕ, ◌+◌, ◌-◌, ◌<◌, ◌≤◌, max, map, List, [], ◌∷◌, length}
 use Rattle.std.specs.List.{sum_by}
+use Rattle.micro_isa.specs.declared.limits.TheConstants.{MOST_REGISTERS}
 use Rattle.micro_isa.specs.declared.program.Line.{Line}
 use Rattle.flow_graph.specs.Paths.{IsClosedCode}
 use Rattle.liveness.specs.declared.live.Live.{Live}
@@ -31,4 +32,4 @@ pub record IsKnownAt (code : List Line) (live : Live) (i : ℕ) : Type 0 where
 -- pressures that a context can have
 pub record IsPart (part : Pressure) : Type 0 where
   pub order : part.private ≤ part.all
-  pub few : part.all ≤ 512
+  pub few : part.all ≤ MOST_REGISTERS
