@@ -1,6 +1,6 @@
 -- Lists of pairs, seen by their sources and targets.
-use Rattle.std.proofs.Common.{◌≡◌, ◌≢◌, ℕ, zero, suc, ◌+◌, ◌<◌, ◌≤◌, List, [], ◌∷◌, length, drop, drop-cons, Some, None, Bool, true, false, refl, sym, ap, ◌∙◌, subst, arith}
-use Rattle.std.specs.Prelude.{not, slice_get, slice_index_or, ◌==◌, if◌then◌else◌}
+use Rattle.std.proofs.Common.{◌≡◌, ◌≢◌, ℕ, zero, suc, ◌+◌, ◌<◌, ◌≤◌, List, [], ◌∷◌, length, drop, drop-cons, Option, Some, None, Bool, true, false, refl, sym, ap, ◌∙◌, subst, arith}
+use Rattle.std.specs.Prelude.{not, is_some, slice_get, slice_index_or, ◌==◌, if◌then◌else◌}
 use Rattle.std.proofs.lemmas.Bool.Decides.{nat_tests}
 use Rattle.micro_isa.specs.declared.image.PReg.{PReg}
 use Rattle.edge_moves.specs.MoveSteps.{Pair, moving, is_source, first_free, without, renamed, target_of}
@@ -53,17 +53,23 @@ pub source_is : (ps : List Pair) (q s : ℕ) → source_to ps q ≡ Some s → i
 source_is [] q s h = absurd (cc)
 source_is (p ∷ ps) q s h = grind (arith, nat_tests, source_is ps q s)
 
+-- a register is a target where its pair is found
+target_found : (ps : List Pair) (q : ℕ) → is_target ps q ≡ is_some (source_to ps q)
+target_found [] q = refl
+target_found (p ∷ ps) q = grind (arith, nat_tests, target_found ps q)
+
 pub no_target : (ps : List Pair) (q : ℕ) → is_target ps q ≡ false → source_to ps q ≡ None
-no_target [] q h = refl
-no_target (p ∷ ps) q h = grind (arith, nat_tests, no_target ps q)
+no_target ps q h = go (source_to ps q) (sym (target_found ps q) ∙ h)
+  where
+    go : (found : Option ℕ) → is_some found ≡ false → found ≡ None
+    go None is = refl
+    go (Some s) is = absurd (cc)
 
 pub some_target : (ps : List Pair) (q s : ℕ) → source_to ps q ≡ Some s → is_target ps q ≡ true
-some_target [] q s h = absurd (cc)
-some_target (p ∷ ps) q s h = grind (arith, nat_tests, some_target ps q s)
+some_target ps q s h = target_found ps q ∙ ap is_some h
 
 pub is_target_none : (ps : List Pair) (q : ℕ) → source_to ps q ≡ None → is_target ps q ≡ false
-is_target_none [] q h = refl
-is_target_none (p ∷ ps) q h = grind (arith, nat_tests, is_target_none ps q)
+is_target_none ps q h = target_found ps q ∙ ap is_some h
 
 pub is_source_found : (ps : List Pair) (r : ℕ) → target_of ps r ≡ None → is_source ps r ≡ false
 is_source_found [] r h = refl

@@ -1,5 +1,5 @@
 -- What remains to be moved between turns.
-use Rattle.std.specs.Prelude.{ℕ, ◌≡◌, ◌≢◌, ◌<◌, List, [], ◌∷◌, ◌++◌, Bool, true, false, Option, Some, None, length, slice_get, slice_index_or}
+use Rattle.std.specs.Prelude.{ℕ, ◌≡◌, ◌≢◌, ◌<◌, List, [], ◌∷◌, ◌++◌, Bool, false, Option, Some, None, length, slice_get, slice_index_or}
 use Rattle.micro_isa.specs.declared.image.PReg.{PReg}
 use Rattle.edge_moves.specs.declared.step.Step.{Step}
 use Rattle.edge_moves.specs.declared.step.Step.TheVariants.{Mov}
