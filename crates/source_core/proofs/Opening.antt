@@ -1,7 +1,7 @@
 -- An interpreter is sound at its opening.
 use Rattle.std.proofs.Common.{◌≡◌, ℕ, zero, suc, ◌<◌, ◌≤◌, List, [], ◌∷◌, length, Option, Some, None, Bool, true, false, refl, sym, ap, ◌∙◌, subst, arith, replicate, map}
 use Rattle.std.specs.Prelude.{slice_get, slice_index, ◌&&◌, IfSome}
-use Rattle.std.proofs.lemmas.Bool.{ltb-true}
+use Rattle.std.proofs.lemmas.Bool.{and_parts, ltb-true}
 use Rattle.std.proofs.lemmas.List.{length-replicate, length-map}
 use Rattle.micro_isa.specs.declared.limits.TheConstants.{MOST_CONTEXTS}
 use Rattle.micro_isa.specs.declared.instr.Instr.{Instr}
@@ -18,18 +18,10 @@ use Rattle.source_core.specs.declared.context.ContextState.{ContextState}
 use Rattle.run_state.specs.Running.{CanRunOne, CanRun}
 use Rattle.source_core.specs.SourceState.{context_of, start_of, config_of, is_there, IsContext, IsSound}
 
-first : (a b : Bool) → (a && b) ≡ true → a ≡ true
-first true b h = refl
-first false b h = absurd (cc)
-
-both : (a b : Bool) → (a && b) ≡ true → b ≡ true
-both true b h = h
-both false b h = absurd (cc)
-
 -- the register that an instruction writes stands among those that it names
 written_there : (n : ℕ) (o : Option VReg) (rest : List VReg) → all_below n (map (λ r. r.0) (cons_option o rest)) ≡ true → IfSome o (λ r. is_there n r ≡ true)
 written_there n None rest h = tt
-written_there n (Some r) rest h = first (is_there n r) (all_below n (map (λ q. q.0) rest)) h
+written_there n (Some r) rest h = (and_parts (is_there n r) (all_below n (map (λ q. q.0) rest)) h).0
 
 target_below : (size : ℕ) (o : Option ℕ) → option_below size o ≡ true → IfSome o (λ target. target < size)
 target_below size None h = tt
@@ -37,9 +29,11 @@ target_below size (Some target) h = ltb-true target size h
 
 can_run : (n size : ℕ) (i : Instr VReg) → names_below (λ r. r.0) n size i ≡ true → CanRunOne (is_there n) size i
 can_run n size i h =
-    let x = operands_of i in record {
-      written = written_there n x.to (cons_option x.a (cons_option x.b [])) (first (all_below n (map (λ r. r.0) (registers_in i))) (option_below size (target_of i)) h);
-      target = target_below size (target_of i) (both (all_below n (map (λ r. r.0) (registers_in i))) (option_below size (target_of i)) h);
+    let x = operands_of i in
+    let both = and_parts (all_below n (map (λ r. r.0) (registers_in i))) (option_below size (target_of i)) h in
+    record {
+      written = written_there n x.to (cons_option x.a (cons_option x.b [])) both.0;
+      target = target_below size (target_of i) both.1;
     }
 
 formed_runs : (p : Program) → IsFormedProgram p → CanRun numbered_line (is_there (length p.registers)) p.code
