@@ -138,8 +138,18 @@ port_part true b e = absurd (true≢false e)
 port_part false true e = absurd (true≢false e)
 port_part false false e = (refl, refl)
 
-has_room : (h : Header) → nat_le MOST_CHANNELS (length h.names) ≡ false → length h.names < MOST_CHANNELS
-has_room h e = leb-false MOST_CHANNELS (length h.names) e
+-- a line that makes a channel and meets no test of its name and of their number
+sound_new : (h : Header) (name : List ℕ) (c : Channel) → IsSound h → ((not (name_test name) || false) || false) ≡ false → (knows h.names name || false) ≡ false → nat_le MOST_CHANNELS (length h.names) ≡ false
+    → has_formed_ring c ≡ true → initial_count c ≡ 0 → ((p : ℕ) → port_of c ≡ Some p → (p < MOST_PORTS) × (list_any (nat_eq p) (filter_map port_of h.channels) ≡ false)) → IsSound (with_channel h name c)
+sound_new h name c s is_name is_new room ring none port =
+    sound_added h name c s (record {
+      is_name = name_part (name_test name) is_name;
+      is_new = first_of (knows h.names name) is_new;
+      room = leb-false MOST_CHANNELS (length h.names) room;
+      ring = ring;
+      none = none;
+      port = port;
+    })
 
 -- a port that is free
 free_port : (h : Header) (port : List ℕ) → (is_bad_port h.channels (number_or port) || false) ≡ false → (p : ℕ) → Some (number_or port) ≡ Some p → (p < MOST_PORTS) × (list_any (nat_eq p) (filter_map port_of h.channels) ≡ false)
@@ -168,55 +178,20 @@ sound_form h fair (Memory size) s e =
 sound_form h fair (Inner name capacity) s e =
     let t = none_met (form_test h fair (Inner name capacity)) e in
     let limits = ring_part (is_from 1 MOST_RING capacity) (nat_le MOST_CHANNELS (length h.names)) (t kind.Limit) in
-    sound_added h name (channel.Inner (number_or capacity)) s (record {
-      is_name = name_part (name_test name) (t kind.Name);
-      is_new = first_of (knows h.names name) (t kind.Repeated);
-      room = has_room h limits.1;
-      ring = limits.0;
-      none = refl;
-      port = λ p same. no_port_at p same;
-    })
+    sound_new h name (channel.Inner (number_or capacity)) s (t kind.Name) (t kind.Repeated) limits.1 limits.0 refl (λ p same. no_port_at p same)
 sound_form h fair (Input name) s e =
     let t = none_met (form_test h fair (Input name)) e in
-    sound_added h name (channel.Input [] None) s (record {
-      is_name = name_part (name_test name) (t kind.Name);
-      is_new = first_of (knows h.names name) (t kind.Repeated);
-      room = has_room h (first_of (nat_le MOST_CHANNELS (length h.names)) (t kind.Limit));
-      ring = refl;
-      none = refl;
-      port = λ p same. no_port_at p same;
-    })
+    sound_new h name (channel.Input [] None) s (t kind.Name) (t kind.Repeated) (first_of (nat_le MOST_CHANNELS (length h.names)) (t kind.Limit)) refl refl (λ p same. no_port_at p same)
 sound_form h fair (PortInput name port capacity) s e =
     let t = none_met (form_test h fair (PortInput name port capacity)) e in
     let limits = ring_part (is_from 1 MOST_RING capacity) (nat_le MOST_CHANNELS (length h.names)) (t kind.Limit) in
-    sound_added h name (channel.Input [] (Some (record { number = number_or port; capacity = number_or capacity }))) s (record {
-      is_name = name_part (name_test name) (t kind.Name);
-      is_new = first_of (knows h.names name) (t kind.Repeated);
-      room = has_room h limits.1;
-      ring = limits.0;
-      none = refl;
-      port = free_port h port (t kind.Port);
-    })
+    sound_new h name (channel.Input [] (Some (record { number = number_or port; capacity = number_or capacity }))) s (t kind.Name) (t kind.Repeated) limits.1 limits.0 refl (free_port h port (t kind.Port))
 sound_form h fair (Output name) s e =
     let t = none_met (form_test h fair (Output name)) e in
-    sound_added h name (channel.Output None) s (record {
-      is_name = name_part (name_test name) (t kind.Name);
-      is_new = first_of (knows h.names name) (t kind.Repeated);
-      room = has_room h (first_of (nat_le MOST_CHANNELS (length h.names)) (t kind.Limit));
-      ring = refl;
-      none = refl;
-      port = λ p same. no_port_at p same;
-    })
+    sound_new h name (channel.Output None) s (t kind.Name) (t kind.Repeated) (first_of (nat_le MOST_CHANNELS (length h.names)) (t kind.Limit)) refl refl (λ p same. no_port_at p same)
 sound_form h fair (PortOutput name port) s e =
     let t = none_met (form_test h fair (PortOutput name port)) e in
-    sound_added h name (channel.Output (Some (number_or port))) s (record {
-      is_name = name_part (name_test name) (t kind.Name);
-      is_new = first_of (knows h.names name) (t kind.Repeated);
-      room = has_room h (first_of (nat_le MOST_CHANNELS (length h.names)) (t kind.Limit));
-      ring = refl;
-      none = refl;
-      port = free_port h port (t kind.Port);
-    })
+    sound_new h name (channel.Output (Some (number_or port))) s (t kind.Name) (t kind.Repeated) (first_of (nat_le MOST_CHANNELS (length h.names)) (t kind.Limit)) refl refl (free_port h port (t kind.Port))
 sound_form h fair (Initial name numbers) s e =
     let t = none_met (form_test h fair (Initial name numbers)) e in
     let at = place_of h.names name in
