@@ -1,6 +1,6 @@
 //! Copies of lists of the world, for what a run shows.
 
-ghost use Rattle.std.specs.Prelude.{◌≡◌, IfOk, map};
+ghost use Rattle.std.specs.Prelude.{◌≡◌, ◌++◌, [], ◌∷◌, IfOk, OnOk, map};
 ghost use Rattle.world.specs.Channels.{has_plugged_port};
 
 use crate::channel::ChannelQueue;
@@ -16,49 +16,40 @@ pub(crate) fn copied<T: Copy>(alloc: Global, items: &[T]) -> Result<List<T>, NoM
     }
 }
 
-/// For each channel its initial words that were not yet received.
-pub(crate) fn left_words(
-    alloc: Global,
-    channels: &[ChannelQueue],
-) -> Result<List<List<u32>>, NoMemory>
-    ensures { IfOk result (λ lists. lists ≡ map (λ ch. ch.left) channels.now) }
-{
-    let mut lists = List::new(alloc);
-    for queue in channels {
-        let words = queue.left(alloc)?;
-        if lists.push(words).is_err() {
-            return Err(NoMemory);
-        }
-    }
-    Ok(lists)
+/// What a run shows of its channels, an item a channel: the initial words that were not yet received,
+/// the words of the ring, and whether the port is plugged.
+#[derive(Drop)]
+pub(crate) struct ShownChannels {
+    pub left: List<List<u32>>,
+    pub rings: List<List<u32>>,
+    pub plugged: List<bool>,
 }
 
-/// For each channel the words of its ring.
-pub(crate) fn ring_words(
-    alloc: Global,
-    channels: &[ChannelQueue],
-) -> Result<List<List<u32>>, NoMemory>
-    ensures { IfOk result (λ lists. lists ≡ map (λ ch. ch.ring) channels.now) }
+pub(crate) fn shown(alloc: Global, channels: &[ChannelQueue]) -> Result<ShownChannels, NoMemory>
+    ensures left { IfOk result (λ shown. shown.left ≡ map (λ ch. ch.left) channels.now) }
+    ensures rings { IfOk result (λ shown. shown.rings ≡ map (λ ch. ch.ring) channels.now) }
+    ensures plugged { IfOk result (λ shown. shown.plugged ≡ map has_plugged_port channels.now) }
 {
-    let mut lists = List::new(alloc);
+    let mut left = List::new(alloc);
+    let mut rings = List::new(alloc);
+    let mut plugged = List::new(alloc);
     for queue in channels {
-        let words = queue.ring(alloc)?;
-        if lists.push(words).is_err() {
-            return Err(NoMemory);
-        }
+        add(&mut left, queue.left(alloc)?)?;
+        add(&mut rings, queue.ring(alloc)?)?;
+        add(&mut plugged, queue.is_plugged())?;
     }
-    Ok(lists)
+    Ok(ShownChannels {
+        left,
+        rings,
+        plugged,
+    })
 }
 
-/// For each channel whether its port is plugged.
-pub(crate) fn plugs(alloc: Global, channels: &[ChannelQueue]) -> Result<List<bool>, NoMemory>
-    ensures { IfOk result (λ list. list ≡ map has_plugged_port channels.now) }
+fn add<T: Drop>(list: &mut List<T>, item: T) -> Result<(), NoMemory>
+    ensures { OnOk result (list.new ≡ list.old ++ item ∷ []) }
 {
-    let mut list = List::new(alloc);
-    for queue in channels {
-        if list.push(queue.is_plugged()).is_err() {
-            return Err(NoMemory);
-        }
+    match list.push(item) {
+        Ok(()) => Ok(()),
+        Err(_) => Err(NoMemory),
     }
-    Ok(list)
 }

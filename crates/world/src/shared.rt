@@ -7,7 +7,7 @@ ghost use Rattle.world.specs.Views.{view_of, loaded};
 ghost use Rattle.world.specs.Channels.{has_room, with_word};
 
 use crate::channel::{ChannelKind, ChannelQueue};
-use crate::copies::{copied, left_words, plugs, ring_words};
+use crate::copies::{copied, shown};
 use crate::event::{Output, Phase, Trap, View};
 use micro_isa::{Channel, List, NoMemory, Setting};
 use std::alloc::Global;
@@ -57,15 +57,13 @@ impl World {
         ensures { IfOk result (λ view. view ≡ view_of self.now steps phases) }
     {
         let memory = copied(alloc, &self.memory)?;
-        let left = left_words(alloc, &self.channels)?;
-        let rings = ring_words(alloc, &self.channels)?;
-        let plugged = plugs(alloc, &self.channels)?;
+        let channels = shown(alloc, &self.channels)?;
         let outputs = copied(alloc, &self.outputs)?;
         Ok(View {
             memory,
-            left,
-            rings,
-            plugged,
+            left: channels.left,
+            rings: channels.rings,
+            plugged: channels.plugged,
             outputs,
             steps,
             phases,
