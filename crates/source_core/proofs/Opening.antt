@@ -1,6 +1,6 @@
 -- An interpreter is sound at its opening.
-use Rattle.std.proofs.Common.{◌≡◌, ℕ, zero, suc, ◌<◌, ◌≤◌, List, [], ◌∷◌, length, Option, Some, None, Bool, true, false, refl, sym, ap, ◌∙◌, subst, arith, replicate, map}
-use Rattle.std.specs.Prelude.{slice_get, slice_index, ◌&&◌, IfSome}
+use Rattle.std.proofs.Common.{◌≡◌, ℕ, zero, suc, ◌<◌, ◌≤◌, List, [], ◌∷◌, length, Option, Some, None, true, refl, sym, ap, ◌∙◌, subst, arith, replicate, map}
+use Rattle.std.specs.Prelude.{slice_get, slice_index, IfSome}
 use Rattle.std.proofs.lemmas.Bool.{and_parts, ltb-true}
 use Rattle.std.proofs.lemmas.List.{length-replicate, length-map}
 use Rattle.micro_isa.specs.declared.limits.TheConstants.{MOST_CONTEXTS}
