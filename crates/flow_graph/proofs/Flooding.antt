@@ -144,6 +144,10 @@ weighs marks stack (Some k) inside =
     ] in
     goes (get_or marks k false) refl
 
+-- where nothing could be taken nothing is left
+pub none_left : (n : ℕ) → (0 < n → false ≡ true) → n ≡ 0
+none_left n some = elim (cases_eq n 0) [ inl e ↦ e | inr more ↦ absurd (let bad : false ≡ true = some (omega arith) in cc) ]
+
 -- at the end
 complete : (successors : List Next) (marks : List Bool) (stack : List ℕ) → length stack ≡ 0 → IsOpen successors marks stack (length successors) → (rest : List ℕ) (i j : ℕ)
     → get_or marks i false ≡ true → Walk (Step successors) i rest j → get_or marks j false ≡ true

@@ -1,8 +1,8 @@
 -- The code of a formed program is closed, so the analyses take it.
 use Rattle.std.proofs.Common.{◌≡◌, ℕ, ◌+◌, ◌-◌, ◌<◌, ◌≤◌, List, [], ◌∷◌, map, length, Option, Some, None, Bool, true, false, refl, sym, subst, ◌∙◌, inl, inr, arith}
-use Rattle.std.specs.Prelude.{◌&&◌, nat_lt, slice_get, ⊤}
+use Rattle.std.specs.Prelude.{nat_lt, slice_get, ⊤}
 use Rattle.std.specs.List.{list_all, cons_option}
-use Rattle.std.proofs.lemmas.Bool.{ltb-true, ltb-false}
+use Rattle.std.proofs.lemmas.Bool.{and_parts, ltb-true, ltb-false}
 use Rattle.std.proofs.lemmas.Option.{same_Some, slice_get_within}
 use Rattle.micro_isa.specs.declared.limits.TheConstants.{MOST_REGISTERS}
 use Rattle.micro_isa.specs.declared.instr.Instr.{Instr}
@@ -15,14 +15,6 @@ use Rattle.micro_isa.specs.Operands.{operands_of}
 use Rattle.micro_isa.specs.Formed.{registers_in, target_of, never_falls, all_below, option_below, IsFormedProgram}
 use Rattle.flow_graph.specs.Paths.{IsSmall, HasSmallRegisters, IsClosedCode}
 
-and_left : (a b : Bool) → (a && b) ≡ true → a ≡ true
-and_left true b h = refl
-and_left false b h = h
-
-and_right : (a b : Bool) → (a && b) ≡ true → b ≡ true
-and_right true b h = h
-and_right false b h = absurd (cc)
-
 -- each register of the list is one of a context's
 abbrev AreSmall : List VReg → Type 0
 AreSmall [] = ⊤
@@ -32,8 +24,9 @@ small : (n : ℕ) → n ≤ MOST_REGISTERS → (rs : List VReg) → all_below n 
 small n few [] h = tt
 small n few (r ∷ rs) h =
     let rest = list_all (λ x. nat_lt x n) (map (λ r. r.0) rs) in
-    let less = ltb-true r.0 n (and_left (nat_lt r.0 n) rest h) in
-    (omega arith, small n few rs (and_right (nat_lt r.0 n) rest h))
+    let both = and_parts (nat_lt r.0 n) rest h in
+    let less = ltb-true r.0 n both.0 in
+    (omega arith, small n few rs both.1)
 
 small_each : (to a b : Option VReg) → AreSmall (cons_option to (cons_option a (cons_option b []))) → IsSmall to × IsSmall a × IsSmall b
 small_each None None None s = (tt, tt, tt)
@@ -72,18 +65,16 @@ target_below n j None h e = absurd (cc)
 target_below n j (Some k) h e = subst (λ t. t < n) (same_Some k j e) (ltb-true k n h)
 
 module _ (p : Program) (formed : IsFormedProgram p) where
+  named : (i : ℕ) (line : Line) → slice_get p.code i ≡ Some line → (all_below (length p.registers) (map (λ r. r.0) (registers_in line.instr)) ≡ true) × (option_below (length p.code) (target_of line.instr) ≡ true)
+  named i line is = and_parts (all_below (length p.registers) (map (λ r. r.0) (registers_in line.instr))) (option_below (length p.code) (target_of line.instr)) (formed.named i line is)
+
   registers_of : (i : ℕ) (line : Line) → slice_get p.code i ≡ Some line → HasSmallRegisters line
   registers_of i line is =
-      let names = and_left (all_below (length p.registers) (map (λ r. r.0) (registers_in line.instr))) (option_below (length p.code) (target_of line.instr)) (formed.named i line is) in
-      let here = of_instr line.instr line.line (small (length p.registers) formed.registers (registers_in line.instr) names) in
+      let here = of_instr line.instr line.line (small (length p.registers) formed.registers (registers_in line.instr) (named i line is).0) in
       record { first = here.first; second = here.second; written = here.written }
 
   target_within : (i j : ℕ) (line : Line) → slice_get p.code i ≡ Some line → (next_of line.instr i).jump ≡ Some j → j < length p.code
-  target_within i j line is e =
-      let both = formed.named i line is in
-      let names = all_below (length p.registers) (map (λ r. r.0) (registers_in line.instr)) in
-      target_below (length p.code) j (target_of line.instr) (and_right names (option_below (length p.code) (target_of line.instr)) both)
-      (sym (jumps_to line.instr i) ∙ e)
+  target_within i j line is e = target_below (length p.code) j (target_of line.instr) (named i line is).1 (sym (jumps_to line.instr i) ∙ e)
 
   -- the last instruction does not fall
   last_stops : (i : ℕ) (line : Line) → slice_get p.code i ≡ Some line → never_falls line.instr ≡ false → length p.code ≤ i + 1 → ⊥

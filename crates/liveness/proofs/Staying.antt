@@ -1,6 +1,6 @@
 -- Survivors and results of an instruction as sets.
 use Rattle.std.proofs.Common.{◌≡◌, ℕ, ◌*◌, ◌%◌, ◌^◌, ◌<◌, List, Option, Some, length, get_or, slice_get, ap, sym, subst, ◌∙◌, inl, inr, arith}
-use Rattle.std.specs.Prelude.{bit_and, bit_or}
+use Rattle.std.specs.Prelude.{bit_and, bit_or, slice_index}
 use Rattle.std.specs.Int.{bit_at, bit_not, w128}
 use Rattle.std.proofs.lemmas.Bool.{cases_eq}
 use Rattle.std.proofs.lemmas.Nat.Bits.{bit_at-zero, bit_at_set_same, bit_at_set_other}
@@ -9,7 +9,9 @@ use Rattle.micro_isa.specs.declared.program.Line.{Line}
 use Rattle.micro_isa.specs.declared.program.VReg.{VReg}
 use Rattle.micro_isa.specs.Columns.{written_by}
 use Rattle.flow_graph.specs.Paths.{IsSmall, IsClosedCode}
+use Rattle.liveness.specs.declared.live.Live.{Live}
 use Rattle.liveness.specs.Liveness.{LiveOut}
+use Rattle.liveness.specs.Lives.{out_sets, IsLiveOf}
 use Rattle.liveness.specs.Sets.{IsSetOf}
 use Rattle.liveness.specs.Surviving.{WritesAt, Stays, IsAfter}
 use Rattle.liveness.proofs.Sizes.{union, difference}
@@ -25,6 +27,10 @@ alone register small =
         λ is. let same : register.0 ≡ k = cc in subst (λ j. bit_at (1 * 2 ^ register.0 % 2 ^ 128) j ≡ 1) same (bit_at_set_same w128 0 register.0 small),
       );
     }
+
+-- what the code reads of the live registers is what is live out
+pub out_set : (code : List Line) (live : Live) (i out : ℕ) → IsLiveOf code live → i < length code → out ≡ slice_index (out_sets live) i → IsSetOf (LiveOut code i) out
+out_set code live i out is here same = subst (IsSetOf (LiveOut code i)) (sym same) (is.live_out i here)
 
 module _ (code : List Line) (i : ℕ) (d : Line) (written : Option VReg) (is_written : written ≡ written_by (get_or code i d).instr)
     (here : i < length code) where

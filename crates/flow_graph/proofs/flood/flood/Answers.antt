@@ -1,6 +1,5 @@
-use Rattle.std.proofs.Common.{◌≡◌, length, true, false, inl, inr, arith}
-use Rattle.std.proofs.lemmas.Bool.{cases_eq}
-use Rattle.flow_graph.proofs.Flooding.{top_within, fall_within, jump_within, next_open, lighter, still_start, ended}
+use Rattle.std.proofs.Common.{arith}
+use Rattle.flow_graph.proofs.Flooding.{none_left, top_within, fall_within, jump_within, next_open, lighter, still_start, ended}
 use Rattle.flow_graph.proofs.flood.flood.Goals as goal
 
 pub bounds-successors-i : goal.bounds-successors-i
@@ -20,9 +19,7 @@ pub returns : goal.returns
 returns c =
     let some = c.in_default.ensures.variant.1 in
     let ok = c.pops.stack.ok in
-    let none : length c.pops.stack.items ≡ 0 =
-    elim (cases_eq (length c.pops.stack.items) 0) [ inl e ↦ e | inr more ↦ absurd (let bad : false ≡ true = some (omega arith) in cc) ] in
-    ended _ _ _ none c.pops.invariant.open_at c.pops.invariant.start
+    ended _ _ _ (none_left _ (λ more. some (omega arith))) c.pops.invariant.open_at c.pops.invariant.start
 
 pub mark-requires : goal.mark-requires
 mark-requires c = fall_within _ _ _ _ _ _ c.in-Some.ensures.items c.requires.within c.pops.invariant.open_at

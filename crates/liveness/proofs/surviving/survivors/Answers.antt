@@ -1,7 +1,5 @@
-use Rattle.std.proofs.Common.{subst, arith, sym}
-use Rattle.liveness.specs.Sets.{IsSetOf}
-use Rattle.liveness.specs.Liveness.{LiveOut}
-use Rattle.liveness.proofs.Staying.{written_small, stay_set}
+use Rattle.std.proofs.Common.{arith}
+use Rattle.liveness.proofs.Staying.{written_small, out_set, stay_set}
 use Rattle.liveness.proofs.surviving.survivors.Goals as goal
 
 pub register_set-requires : goal.register_set-requires
@@ -9,5 +7,5 @@ register_set-requires c = written_small _ _ _ _ c.writes.ensures c.requires.here
 
 pub returns : goal.returns
 returns c =
-    let out = subst (λ set. IsSetOf (LiveOut c.args.code.now c.args.i) set) (sym c.live_out.ensures) (c.requires.live.live_out _ c.requires.here) in
-    stay_set _ _ _ _ c.writes.ensures c.requires.here c.live_out.result c.register_set.result (omega arith) (omega arith) out c.register_set.ensures
+    stay_set _ _ _ _ c.writes.ensures c.requires.here c.live_out.result c.register_set.result (omega arith) (omega arith) (out_set _ _ _ _ c.requires.live c.requires.here c.live_out.ensures)
+    c.register_set.ensures
