@@ -1,5 +1,5 @@
 -- What a flood's visits keep.
-use Rattle.std.proofs.Common.{◌≡◌, ℕ, ◌+◌, ◌<◌, ◌≤◌, ◌⊎◌, Bool, true, false, cond, List, [], ◌∷◌, ◌++◌, Option, Some, None, length, get_or, set, sym, subst, refl, ap, ◌∙◌, inl, inr, Contains, arith}
+use Rattle.std.proofs.Common.{◌≡◌, ℕ, ◌+◌, ◌<◌, ◌⊎◌, cond, List, [], ◌∷◌, ◌++◌, Option, Some, None, length, get_or, set, sym, subst, refl, ap, ◌∙◌, inl, inr, Contains, arith}
 use Rattle.std.specs.Prelude.{is_some}
 use Rattle.std.proofs.lemmas.Bool.{cases_eq}
 use Rattle.std.proofs.lemmas.List.{get_or-set_same, get_or-set_other, length-set, length-append}
@@ -9,7 +9,7 @@ use Rattle.std.proofs.lemmas.Option.{same_Some}
 use Rattle.flow_graph.specs.Paths.{Below}
 use Rattle.pressure.specs.declared.ring.Rings.{Rings}
 use Rattle.pressure.specs.Rings.{Leads, Link, LinkOf}
-use Rattle.pressure.specs.Floods.{HasNumber, weight, given, queued, Gives, Floods, IsUnused, AreLow}
+use Rattle.pressure.specs.Floods.{HasNumber, weight, given, queued, Gives, Floods, IsUnused, AreLow, CanVisit}
 use Rattle.pressure.proofs.Ways.{trans, one}
 use Rattle.pressure.proofs.Ringing.{some_below}
 
@@ -204,3 +204,6 @@ falls_low falls jumps n m low same = record { low = λ a b link. let less = low.
 
 pub jumps_low : (falls jumps : Rings) (n m : ℕ) → AreLow (LinkOf falls jumps) n → m ≡ n → AreLow (Link jumps.own jumps.target) m
 jumps_low falls jumps n m low same = record { low = λ a b link. let less = low.low a b (inr link) in omega arith }
+
+pub can_visit : (rings : Rings) (i n m : ℕ) → i < n → length rings.own ≡ n → length rings.target ≡ n → AreLow (Link rings.own rings.target) m → CanVisit rings i m
+can_visit rings i n m below own target low = record { own = omega arith; target = omega arith; low = low }

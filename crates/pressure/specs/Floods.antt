@@ -1,9 +1,10 @@
 -- A flood that gives a number to all that links lead to, with a list of what is still to visit.
-use Rattle.std.specs.Prelude.{ℕ, ◌≡◌, ◌+◌, ◌*◌, ◌<◌, ◌≤◌, ◌⊎◌, cond, Bool, true, false, List, [], ◌∷◌, ◌++◌, Option, Some, None, length, is_some, slice_index, slice_index_or, slice_set}
+use Rattle.std.specs.Prelude.{ℕ, ◌≡◌, ◌+◌, ◌*◌, ◌<◌, ◌≤◌, ◌⊎◌, cond, List, [], ◌∷◌, ◌++◌, Option, Some, None, length, is_some, slice_index, slice_index_or, slice_set}
 use Rattle.std.specs.List.{Contains, sum_by}
 use Rattle.micro_isa.specs.declared.program.Line.{Line}
 use Rattle.pressure.specs.Regions.{Connected, IsLeastOf}
-use Rattle.pressure.specs.Rings.{Leads}
+use Rattle.pressure.specs.Rings.{Leads, Link}
+use Rattle.pressure.specs.declared.ring.Rings.{Rings}
 
 -- instruction i has number a
 abbrev pub HasNumber : List (Option ℕ) → ℕ → ℕ → Type 0
@@ -50,6 +51,12 @@ pub record IsUnused (numbers : List (Option ℕ)) (number : ℕ) : Type 0 where
 -- the links lead to instructions below n
 pub record AreLow (link : ℕ → ℕ → Type 0) (n : ℕ) : Type 0 where
   pub low : (a b : ℕ) → link a b → b < n
+
+-- instruction i may be visited on rings over n instructions
+pub record CanVisit (rings : Rings) (i n : ℕ) : Type 0 where
+  pub own : i < length rings.own
+  pub target : i < length rings.target
+  pub low : AreLow (Link rings.own rings.target) n
 
 -- the regions with an instruction below m are numbered, by their least instructions
 pub record AreNumbered (code : List Line) (m count : ℕ) (numbers : List (Option ℕ)) : Type 0 where

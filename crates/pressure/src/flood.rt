@@ -1,7 +1,7 @@
 ghost use Rattle.std.specs.Prelude.{◌≡◌, ◌<◌, ◌≤◌, [], Some, None, length, slice_index_or, OnOk};
 ghost use Rattle.flow_graph.specs.Paths.{Below};
 ghost use Rattle.pressure.specs.Rings.{Link, LinkOf};
-ghost use Rattle.pressure.specs.Floods.{Gives, Floods, IsUnused, AreLow, given, queued};
+ghost use Rattle.pressure.specs.Floods.{Gives, Floods, IsUnused, AreLow, CanVisit, given, queued};
 
 use crate::ring::Rings;
 use micro_isa::NoMemory;
@@ -43,9 +43,7 @@ fn give_ring(
     waiting: &mut Vec<u32>,
     number: u32,
 ) -> Result<(), NoMemory>
-    requires own { i < length rings.now.own }
-    requires target { i < length rings.now.target }
-    requires low { AreLow (Link rings.now.own rings.now.target) (length numbers.old) }
+    requires { CanVisit rings.now i (length numbers.old) }
     ensures { OnOk result (Gives (Link rings.now.own rings.now.target i) number numbers.old numbers.new waiting.old.items waiting.new.items) }
 {
     give(numbers, waiting, rings.after_on_own(i), number)?;

@@ -49,7 +49,7 @@ impl Regions {
     }
 }
 
-/// The regions, numbered one after the other.
+/// The regions, numbered one after the other, by a flood from the least instruction of each.
 fn numbered(
     alloc: Global,
     code: &[Line],
@@ -61,28 +61,12 @@ fn numbered(
     requires nobody { IsNobody (length code.now) numbers.old }
     ensures { IfOk result (λ regions. AreRegionsOf code.now regions) }
 {
-    let count = number_all(alloc, code, falls, jumps, numbers)?;
-    let numbers = plain(alloc, numbers)?;
-    Ok(Regions { numbers, count })
-}
-
-/// Numbers the regions, by a flood from the least instruction of each. How many there are.
-fn number_all(
-    alloc: Global,
-    code: &[Line],
-    falls: &Rings,
-    jumps: &Rings,
-    numbers: &mut [Option<u32>],
-) -> Result<u32, NoMemory>
-    requires rings { AreRinged code.now falls.now jumps.now }
-    requires nobody { IsNobody (length code.now) numbers.old }
-    ensures { IfOk result (λ count. AreNumbered code.now (length code.now) count numbers.new) }
-{
     let mut count = 0;
     'places: for i in 0..code.len() {
         count = number_from(alloc, code, falls, jumps, numbers, i as u32, count)?;
     }
-    Ok(count)
+    let numbers = plain(alloc, numbers)?;
+    Ok(Regions { numbers, count })
 }
 
 /// Numbers the region of instruction `i`, if it has no number yet. How many are numbered then.

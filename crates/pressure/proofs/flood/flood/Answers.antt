@@ -1,6 +1,6 @@
-use Rattle.std.proofs.Common.{◌≡◌, ◌<◌, ◌∙◌, length, true, false, inl, inr, arith}
-use Rattle.std.proofs.lemmas.Bool.{cases_eq}
-use Rattle.pressure.proofs.Flooding.{starts, both_rings, top_below, ended, falls_low, jumps_low}
+use Rattle.std.proofs.Common.{◌∙◌, arith}
+use Rattle.flow_graph.proofs.Flooding.{none_left}
+use Rattle.pressure.proofs.Flooding.{starts, both_rings, top_below, can_visit, ended, falls_low, jumps_low}
 use Rattle.pressure.proofs.flood.flood.Goals as goal
 
 pub visits-init : goal.visits-init
@@ -17,30 +17,16 @@ visits-smaller c =
 
 pub give_ring-requires : goal.give_ring-requires
 give_ring-requires c =
-    let below = top_below _ _ _ _ _ _ _ _ c.in-Some.ensures.items c.visits.invariant in
-    let own = c.requires.fall_own in
-    let target = c.requires.fall_target in
-    record {
-      own = omega arith;
-      target = omega arith;
-      low = falls_low _ c.args.jumps.now _ _ c.requires.low c.visits.invariant.one_each;
-    }
+    can_visit _ _ _ _ (top_below _ _ _ _ _ _ _ _ c.in-Some.ensures.items c.visits.invariant) c.requires.fall_own c.requires.fall_target
+    (falls_low _ c.args.jumps.now _ _ c.requires.low c.visits.invariant.one_each)
 
 pub give_ring-requires-in-Some : goal.give_ring-requires-in-Some
 give_ring-requires-in-Some c =
-    let below = top_below _ _ _ _ _ _ _ _ c.in-Some.ensures.items c.visits.invariant in
-    let own = c.requires.jump_own in
-    let target = c.requires.jump_target in
-    record {
-      own = omega arith;
-      target = omega arith;
-      low = jumps_low c.args.falls.now _ _ _ c.requires.low (c.give_ring.auto.numbers ∙ c.visits.invariant.one_each);
-    }
+    can_visit _ _ _ _ (top_below _ _ _ _ _ _ _ _ c.in-Some.ensures.items c.visits.invariant) c.requires.jump_own c.requires.jump_target
+    (jumps_low c.args.falls.now _ _ _ c.requires.low (c.give_ring.auto.numbers ∙ c.visits.invariant.one_each))
 
 pub returns : goal.returns
 returns c =
     let some = c.in_default.ensures.variant.1 in
     let ok = c.visits.waiting.ok in
-    let none : length c.visits.waiting.items ≡ 0 =
-    elim (cases_eq (length c.visits.waiting.items) 0) [ inl e ↦ e | inr more ↦ absurd (let bad : false ≡ true = some (omega arith) in cc) ] in
-    ended _ _ _ _ _ _ none c.visits.invariant
+    ended _ _ _ _ _ _ (none_left _ (λ more. some (omega arith))) c.visits.invariant

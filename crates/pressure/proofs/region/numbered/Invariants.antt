@@ -1,6 +1,6 @@
 use Rattle.std.proofs.Common.{◌≤◌}
 use Rattle.pressure.specs.Floods.{AreNumbered}
-use Rattle.pressure.proofs.region.number_all.Given as goal
+use Rattle.pressure.proofs.region.numbered.Given as goal
 
 abbrev pub invariant-places : goal.invariant-places
 invariant-places l = record {
