@@ -113,7 +113,7 @@ goes_labelled : (all : Said) (label : List ℕ) → knows all.labels label ≡ t
 goes_labelled all label k = labelled_at 0 all.labels all.targets (place_of all.labels label) (place_of all.labels label) (place_of_below all.labels label k) (omega arith)
 
 -- the registers of operands, each by a function
-registers_each : (f : List ℕ → VReg) (to a b : Option (List ℕ)) → cons_option (option_map f to) (cons_option (option_map f a) (cons_option (option_map f b) [])) ≡ map f (cons_option to (cons_option a (cons_option b [])))
+pub registers_each : {X Y : Type 0} (f : X → Y) (to a b : Option X) → cons_option (option_map f to) (cons_option (option_map f a) (cons_option (option_map f b) [])) ≡ map f (cons_option to (cons_option a (cons_option b [])))
 registers_each f None None None = refl
 registers_each f None None (Some b) = refl
 registers_each f None (Some a) None = refl

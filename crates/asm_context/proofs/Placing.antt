@@ -17,7 +17,7 @@ use Rattle.asm_lines.specs.Numbers.{number_or}
 use Rattle.asm_lines.specs.Tables.{words_seen, knows, place_of, declare, one}
 use Rattle.asm_lines.proofs.Known.{knows_it, knows_fold}
 use Rattle.asm_context.specs.declared.said.Places.{Places}
-use Rattle.asm_context.specs.Forms.{Form, Blank, Instruction, Miscounted, Unknown}
+use Rattle.asm_context.specs.Forms.{Form, Blank, Instruction, Miscounted, Unknown, operands_of}
 use Rattle.asm_context.specs.Places.{place_in, places_of, places_in, PlaceFits, PlacesFit, register_at, placed, instr_at}
 use Rattle.asm_context.specs.Programs.{register, target, instr_in}
 use Rattle.asm_context.specs.Said.{Said}
@@ -103,10 +103,7 @@ fits_in rs None few = tt
 fits_in rs (Some w) few = omega (arith, place_le rs w)
 
 line_fits : (rs : Words) (f : Form) → length rs ≤ MOST_REGISTERS → PlacesFit (places_in rs f)
-line_fits rs (Instruction o x) few = record { to = fits_in rs x.to few; a = fits_in rs x.a few; b = fits_in rs x.b few }
-line_fits rs Blank few = record { to = tt; a = tt; b = tt }
-line_fits rs Miscounted few = record { to = tt; a = tt; b = tt }
-line_fits rs Unknown few = record { to = tt; a = tt; b = tt }
+line_fits rs f few = let x = operands_of f in record { to = fits_in rs x.to few; a = fits_in rs x.a few; b = fits_in rs x.b few }
 
 pub places_fit : (rs : Words) (f : Form) (p : Places) → p ≡ places_in rs f → length rs ≤ MOST_REGISTERS → PlacesFit p
 places_fit rs f p e few = subst PlacesFit (sym e) (line_fits rs f few)

@@ -4,6 +4,7 @@ use Rattle.micro_isa.specs.declared.operation.Operation.{Operation}
 use Rattle.micro_isa.specs.declared.operands.Extra.{Extra}
 use Rattle.micro_isa.specs.declared.operands.Extra.TheVariants.{Nothing}
 use Rattle.micro_isa.specs.Columns as columns
+use Rattle.micro_isa.specs.Operands.{with}
 use Rattle.micro_isa.specs.Table.{named, roles_of}
 use Rattle.asm_lines.specs.Cutting.{Words}
 use Rattle.asm_lines.specs.Heads.{WordHead}
@@ -86,15 +87,18 @@ abbrev pub ends : Form → Bool
 ends (Instruction o x) = columns.ends o
 ends _ = false
 
+-- the operands; a line without an instruction has none
+abbrev pub operands_of : Form → Spelt
+operands_of (Instruction o x) = x
+operands_of _ = with None None None Nothing
+
 -- the registers, in the order of the text
 abbrev pub registers_in : Form → Words
-registers_in (Instruction o x) = columns.registers x
-registers_in _ = []
+registers_in f = columns.registers (operands_of f)
 
 -- what a line names beside registers
 abbrev pub extra_in : Form → Extra (List ℕ) (List ℕ)
-extra_in (Instruction o x) = x.extra
-extra_in _ = Nothing
+extra_in f = (operands_of f).extra
 
 -- the label that a line goes to
 abbrev pub goes_to : Form → Option (List ℕ)

@@ -8,7 +8,7 @@ use Rattle.asm_lines.specs.Cutting.{Words}
 use Rattle.asm_lines.specs.Numbers.{number_or}
 use Rattle.asm_lines.specs.Tables.{place_of}
 use Rattle.asm_context.specs.declared.said.Places.{Places}
-use Rattle.asm_context.specs.Forms.{Form, Instruction}
+use Rattle.asm_context.specs.Forms.{Form, Instruction, operands_of}
 use Rattle.asm_context.specs.Programs.{target}
 use Rattle.asm_context.specs.Said.{Said}
 use Rattle.asm_context.specs.Spelt.{Spelt, each_extra}
@@ -22,8 +22,7 @@ places_of rs x = record { to = place_in rs x.to; a = place_in rs x.a; b = place_
 
 -- those of a line
 abbrev pub places_in : Words → Form → Places
-places_in rs (Instruction o x) = places_of rs x
-places_in rs _ = record { to = None; a = None; b = None }
+places_in rs f = places_of rs (operands_of f)
 
 -- a place that a register's number may be
 abbrev pub PlaceFits : Option ℕ → Type 0

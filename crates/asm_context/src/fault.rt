@@ -3,27 +3,20 @@ ghost use Rattle.std.specs.List.{list_any};
 ghost use Rattle.micro_isa.specs.Formed.{gives_words, takes_words};
 ghost use Rattle.asm_lines.specs.Numbers.{is_no_number};
 ghost use Rattle.asm_lines.specs.Tables.{words_seen, knows, misnamed, one};
-ghost use Rattle.asm_context.specs.Forms.{registers_in, number_in, goes_to};
+ghost use Rattle.asm_context.specs.Forms.{number_in, goes_to};
 ghost use Rattle.asm_context.specs.Faults.{channels, is_misnamed, is_loose, gives_none, takes_none, body_fault};
 ghost use Rattle.asm_context.specs.Views.{seen_operands, seen_form, seen_body, seen_said, seen_outline};
 ghost use Rattle.micro_isa.specs.Columns.{registers};
 
-use crate::form::{Body, Form, does, ends, extra_in, goes_to, receives_from, sends_to};
+use crate::form::{
+    Body, Form, does, ends, extra_in, goes_to, operands_of, receives_from, sends_to,
+};
 use crate::outline::Outline;
 use crate::said::Said;
 use crate::spelt::Spelt;
 use asm_lines::{BundleKind, is_misnamed, is_stray, place_of, word_number};
 use indexmap::IndexSet;
 use micro_isa::{Channel, Extra, MOST_INSTRUCTIONS, MOST_REGISTERS, gives_words, takes_words};
-
-fn has_bad_register(form: Form) -> bool
-    ensures { result ≡ misnamed (registers_in (seen_form form.entry)) }
-{
-    match form {
-        Form::Instruction { operands, .. } => are_misnamed(operands),
-        _ => false,
-    }
-}
 
 fn are_misnamed(operands: Spelt) -> bool
     ensures { result ≡ misnamed (registers (seen_operands operands.entry)) }
@@ -35,7 +28,7 @@ fn has_bad_name(body: Body) -> bool
     ensures { result ≡ is_misnamed (seen_body body.entry) }
 {
     is_misnamed(body.label)
-        || has_bad_register(body.form)
+        || are_misnamed(operands_of(body.form))
         || is_misnamed(goes_to(body.form))
         || is_misnamed(receives_from(body.form))
         || is_misnamed(sends_to(body.form))

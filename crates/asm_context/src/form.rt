@@ -1,11 +1,11 @@
 ghost use Rattle.std.specs.Prelude.{◌≡◌, Some, option_map};
-ghost use Rattle.asm_context.specs.Forms.{named_form, form_of, label_in, body_of, label_at, does_at, does, ends, extra_in, goes_to, receives_from, sends_to};
+ghost use Rattle.asm_context.specs.Forms.{named_form, form_of, label_in, body_of, label_at, does_at, does, ends, operands_of, extra_in, goes_to, receives_from, sends_to};
 ghost use Rattle.asm_context.specs.Said.{line_body};
-ghost use Rattle.asm_context.specs.Views.{seen_extra, seen_form, seen_body};
+ghost use Rattle.asm_context.specs.Views.{seen_extra, seen_operands, seen_form, seen_body};
 ghost use Rattle.asm_lines.specs.Heads.{seen_head};
 ghost use Rattle.asm_lines.specs.Tables.{words_seen};
 
-use crate::spelt::{Spelt, operands_in};
+use crate::spelt::{NOTHING, Spelt, operands_in};
 use asm_lines::{Head, Row};
 use micro_isa::{Extra, Operation, operation_named, roles_of};
 
@@ -107,6 +107,17 @@ pub fn ends(form: Form) -> bool
     match form {
         Form::Instruction { operation, .. } => micro_isa::ends(operation),
         _ => false,
+    }
+}
+
+/// The operands of a line; without an instruction it has none.
+#[inline(always)]
+pub fn operands_of<'a>(form: Form<'a>) -> Spelt<'a>
+    ensures { seen_operands result ≡ operands_of (seen_form form.entry) }
+{
+    match form {
+        Form::Instruction { operands, .. } => operands,
+        _ => NOTHING,
     }
 }
 

@@ -1,12 +1,12 @@
 ghost use Rattle.std.specs.Prelude.{◌≡◌, ◌+◌, ◌<◌, IfOk, OnOk, fold, option_map};
 ghost use Rattle.asm_lines.specs.Tables.{words_seen, knows, declare, one};
-ghost use Rattle.asm_context.specs.Forms.{does, registers_in};
+ghost use Rattle.asm_context.specs.Forms.{does};
 ghost use Rattle.asm_context.specs.Places.{place_in, places_of, places_in};
 ghost use Rattle.asm_context.specs.Said.{nothing, targets_after, count, with_body};
 ghost use Rattle.asm_context.specs.Views.{seen_operands, seen_form, seen_body, seen_said};
 ghost use Rattle.micro_isa.specs.Columns.{registers};
 
-use crate::form::{Body, Form, does};
+use crate::form::{Body, Form, does, operands_of};
 use crate::spelt::Spelt;
 use asm_lines::declare;
 use indexmap::IndexSet;
@@ -30,12 +30,6 @@ pub struct Places {
     pub a: Option<usize>,
     pub b: Option<usize>,
 }
-
-const NOWHERE: Places = Places {
-    to: None,
-    a: None,
-    b: None,
-};
 
 pub fn nothing<'a>(alloc: Global) -> Said<'a>
     ensures seen { seen_said result ≡ nothing }
@@ -71,20 +65,6 @@ pub fn note_label<'a>(
         }
     }
     Ok(())
-}
-
-#[inline(always)]
-fn note_registers<'a>(
-    registers: &mut IndexSet<&'a [u8]>,
-    form: Form<'a>,
-) -> Result<Places, NoMemory>
-    ensures registers { OnOk result (words_seen registers.new.keys ≡ fold declare (words_seen registers.old.keys) (registers_in (seen_form form.entry))) }
-    ensures places { IfOk result (λ p. p ≡ places_in (words_seen registers.new.keys) (seen_form form.entry)) }
-{
-    match form {
-        Form::Instruction { operands, .. } => note_operands(registers, operands),
-        _ => Ok(NOWHERE),
-    }
 }
 
 #[inline(always)]
@@ -130,7 +110,7 @@ pub fn note<'a>(said: &mut Said<'a>, body: Body<'a>) -> Result<Places, NoMemory>
     ensures places { IfOk result (λ p. p ≡ places_in (words_seen said.new.registers.keys) (seen_form body.entry.form)) }
 {
     note_label(&mut said.labels, &mut said.targets, said.done, body.label)?;
-    let places = note_registers(&mut said.registers, body.form)?;
+    let places = note_operands(&mut said.registers, operands_of(body.form))?;
     said.done = counted(said.done, body.form);
     Ok(places)
 }

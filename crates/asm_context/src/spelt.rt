@@ -10,7 +10,8 @@ use micro_isa::{Extra, Operands, Role};
 /// The operands of a line, as its words.
 pub type Spelt<'a> = Operands<&'a [u8], &'a [u8], &'a [u8]>;
 
-const NOTHING: Operands<&'static [u8], &'static [u8], &'static [u8]> = Operands {
+/// The operands of a line without an instruction.
+pub const NOTHING: Operands<&'static [u8], &'static [u8], &'static [u8]> = Operands {
     to: None,
     a: None,
     b: None,
@@ -37,34 +38,15 @@ pub fn operands_in<'a>(roles: &[Role], words: &[&'a [u8]]) -> Option<Spelt<'a>>
 fn with_word<'a>(role: Role, word: &'a [u8], rest: Spelt<'a>) -> Spelt<'a>
     ensures { seen_operands result ≡ with_word role word.now (seen_operands rest.entry) }
 {
+    let mut spelt = rest;
     match role {
-        Role::To => Operands {
-            to: Some(word),
-            ..rest
-        },
-        Role::A => Operands {
-            a: Some(word),
-            ..rest
-        },
-        Role::B => Operands {
-            b: Some(word),
-            ..rest
-        },
-        Role::Number => Operands {
-            extra: Extra::Number(word),
-            ..rest
-        },
-        Role::Target => Operands {
-            extra: Extra::Target(word),
-            ..rest
-        },
-        Role::Receive => Operands {
-            extra: Extra::Receive(word),
-            ..rest
-        },
-        Role::Send => Operands {
-            extra: Extra::Send(word),
-            ..rest
-        },
+        Role::To => spelt.to = Some(word),
+        Role::A => spelt.a = Some(word),
+        Role::B => spelt.b = Some(word),
+        Role::Number => spelt.extra = Extra::Number(word),
+        Role::Target => spelt.extra = Extra::Target(word),
+        Role::Receive => spelt.extra = Extra::Receive(word),
+        Role::Send => spelt.extra = Extra::Send(word),
     }
+    spelt
 }
