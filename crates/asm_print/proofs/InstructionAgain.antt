@@ -2,6 +2,7 @@
 use Rattle.std.proofs.Common.{◌≡◌, ◌<◌, ◌≤◌, ◌==◌, ℕ, zero, suc, Bool, true, false, not, List, [], ◌∷◌, Option, Some, None, refl, sym, ap, ◌∙◌, arith, length, map, take, decimal, slice_get, slice_index, get_or, nat_lt}
 use Rattle.std.specs.Prelude.{is_some}
 use Rattle.std.proofs.lemmas.Bool.{and_parts, or_from, ltb-true}
+use mathlib.Core.List.{map-map}
 use Rattle.std.proofs.lemmas.List.{length-map}
 use Rattle.std.proofs.lemmas.Option.{slice_get_within}
 use Rattle.std.specs.List.{list_any, list_all, cons_option}
@@ -33,6 +34,7 @@ use Rattle.asm_context.specs.Spelt.{operands_in, each, each_extra}
 use Rattle.asm_context.specs.Forms.{Form, Body, Instruction, counted_form, named_form, labelled, body_of, is_unknown, is_miscounted, does, ends, registers_in, goes_to, receives_from, sends_to, number_in}
 use Rattle.asm_context.specs.Programs.{register, target, instr_in}
 use Rattle.asm_context.specs.Said.{Said}
+use Rattle.asm_context.proofs.Instructing.{registers_each}
 use Rattle.asm_print.specs.Canonical.{name_at, register_name, target_name, spelt, word_in, instruction_row}
 use Rattle.asm_print.proofs.Plain.{row_words}
 use Rattle.asm_print.specs.Typed.{ExtraFits, NumberFits}
@@ -107,59 +109,38 @@ pub record Shape (chs : Words) (p : Program) (i : Instr VReg) : Type 0 where
   pub number : number_in (form_for chs p i) ≡ option_map decimal (number i)
 
 registers_spelt : (p : Program) (to a b : Option VReg) → cons_option (option_map (register_name p) to) (cons_option (option_map (register_name p) a) (cons_option (option_map (register_name p) b) [])) ≡ map (name_at p.registers) (map (λ (r : VReg). r.0) (cons_option to (cons_option a (cons_option b []))))
-registers_spelt p None None None = refl
-registers_spelt p None None (Some b) = refl
-registers_spelt p None (Some a) None = refl
-registers_spelt p None (Some a) (Some b) = refl
-registers_spelt p (Some to) None None = refl
-registers_spelt p (Some to) None (Some b) = refl
-registers_spelt p (Some to) (Some a) None = refl
-registers_spelt p (Some to) (Some a) (Some b) = refl
+registers_spelt p to a b =
+    let all = cons_option to (cons_option a (cons_option b [])) in
+    registers_each (register_name p) to a b ∙ sym (map-map (name_at p.registers) (λ (r : VReg). r.0) all)
 
-module _ (chs : Words) (p : Program) where
-  abbrev extra_spelt : Extra ℕ ℕ → Extra (List ℕ) (List ℕ)
-  extra_spelt x = each_extra decimal (target_name p.labels) (name_at chs) x
+abbrev extra_spelt : Words → Program → Extra ℕ ℕ → Extra (List ℕ) (List ℕ)
+extra_spelt chs p x = each_extra decimal (target_name p.labels) (name_at chs) x
 
-  goes_spelt : (x : Extra ℕ ℕ) → target_in (extra_spelt x) ≡ option_map (target_name p.labels) (target_in x)
-  goes_spelt Nothing = refl
-  goes_spelt (Number n) = refl
-  goes_spelt (Target t) = refl
-  goes_spelt (Receive k) = refl
-  goes_spelt (Send k) = refl
+-- what the words of operands beside registers are words for
+record SpellsExtra (chs : Words) (p : Program) (x : Extra ℕ ℕ) : Type 0 where
+  goes : target_in (extra_spelt chs p x) ≡ option_map (target_name p.labels) (target_in x)
+  receives : operand.received (extra_spelt chs p x) ≡ option_map (name_at chs) (operand.received x)
+  sends : operand.sent (extra_spelt chs p x) ≡ option_map (name_at chs) (operand.sent x)
+  number : operand.number_of (extra_spelt chs p x) ≡ option_map decimal (operand.number_of x)
 
-  received_spelt : (x : Extra ℕ ℕ) → operand.received (extra_spelt x) ≡ option_map (name_at chs) (operand.received x)
-  received_spelt Nothing = refl
-  received_spelt (Number n) = refl
-  received_spelt (Target t) = refl
-  received_spelt (Receive k) = refl
-  received_spelt (Send k) = refl
-
-  sent_spelt : (x : Extra ℕ ℕ) → operand.sent (extra_spelt x) ≡ option_map (name_at chs) (operand.sent x)
-  sent_spelt Nothing = refl
-  sent_spelt (Number n) = refl
-  sent_spelt (Target t) = refl
-  sent_spelt (Receive k) = refl
-  sent_spelt (Send k) = refl
-
-  number_spelt : (x : Extra ℕ ℕ) → operand.number_of (extra_spelt x) ≡ option_map decimal (operand.number_of x)
-  number_spelt Nothing = refl
-  number_spelt (Number n) = refl
-  number_spelt (Target t) = refl
-  number_spelt (Receive k) = refl
-  number_spelt (Send k) = refl
+spells_extra : (chs : Words) (p : Program) (x : Extra ℕ ℕ) → SpellsExtra chs p x
+spells_extra chs p Nothing = record { goes = refl; receives = refl; sends = refl; number = refl }
+spells_extra chs p _ = record { goes = refl; receives = refl; sends = refl; number = refl }
 
 pub shape : (chs : Words) (p : Program) (i : Instr VReg) → Shape chs p i
 shape chs p i =
-    let x = operands_of i in record {
+    let x = operands_of i in
+    let beside = spells_extra chs p x.extra in
+    record {
       unknown = refl;
       miscounted = refl;
       does = refl;
       ends = refl;
       registers = registers_spelt p x.to x.a x.b;
-      goes = goes_spelt chs p x.extra;
-      receives = received_spelt chs p x.extra;
-      sends = sent_spelt chs p x.extra;
-      number = number_spelt chs p x.extra;
+      goes = beside.goes;
+      receives = beside.receives;
+      sends = beside.sends;
+      number = beside.number;
     }
 
 -- ---- names that an instruction uses
@@ -218,19 +199,19 @@ met chs kinds k c h =
       place = ap (place_of chs) (name_is chs k) ∙ place_is chs k [] c.distinct within;
     }
 
-pub giver : (kinds : List Channel) (k : ℕ) → formed.gives_words (slice_get kinds k) ≡ true → k < length kinds
-giver kinds k e = go (slice_get kinds k) refl e
+-- a channel that passes a test is one of the text's
+is_within : (test : Option Channel → Bool) (kinds : List Channel) (k : ℕ) → test None ≡ false → test (slice_get kinds k) ≡ true → k < length kinds
+is_within test kinds k none passes = go (slice_get kinds k) refl passes
   where
-    go : (o : Option Channel) → slice_get kinds k ≡ o → formed.gives_words o ≡ true → k < length kinds
+    go : (o : Option Channel) → slice_get kinds k ≡ o → test o ≡ true → k < length kinds
     go None f g = absurd (cc)
     go (Some c) f g = slice_get_within kinds k c f
 
+pub giver : (kinds : List Channel) (k : ℕ) → formed.gives_words (slice_get kinds k) ≡ true → k < length kinds
+giver kinds k e = is_within formed.gives_words kinds k refl e
+
 pub taker : (kinds : List Channel) (k : ℕ) → formed.takes_words (slice_get kinds k) ≡ true → k < length kinds
-taker kinds k e = go (slice_get kinds k) refl e
-  where
-    go : (o : Option Channel) → slice_get kinds k ≡ o → formed.takes_words o ≡ true → k < length kinds
-    go None f g = absurd (cc)
-    go (Some c) f g = slice_get_within kinds k c f
+taker kinds k e = is_within formed.takes_words kinds k refl e
 
 -- ---- the instruction of a line
 

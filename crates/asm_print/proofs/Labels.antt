@@ -1,32 +1,25 @@
 -- In a list of labels in the order of their targets, those with one target stand together.
-use Rattle.std.proofs.Common.{◌≡◌, ◌<◌, ◌≤◌, ◌==◌, ◌&&◌, ◌+◌, ◌-◌, ℕ, zero, suc, Bool, true, false, List, [], ◌∷◌, length, map, filter, take, drop, get_or, refl, sym, ap, ◌∙◌, arith, cond, nat_le, ltb, leb}
+use Rattle.std.proofs.Common.{◌≡◌, ◌<◌, ◌≤◌, ◌==◌, ◌+◌, ◌-◌, ℕ, zero, suc, Bool, true, false, List, [], ◌∷◌, length, map, filter, take, drop, get_or, refl, sym, ap, ◌∙◌, arith, cond, nat_le, ltb, leb}
+use Rattle.std.proofs.lemmas.Bool.{and_parts}
 use Rattle.std.proofs.lemmas.Bool.Decides.{nat_tests}
 use Rattle.std.proofs.lemmas.List.{get_or-drop, length-drop}
 use Rattle.micro_isa.specs.Formed.{never_drops}
 
-and_left : (a b : Bool) → (a && b) ≡ true → a ≡ true
-and_left true b e = refl
-and_left false b e = absurd (cc)
-
-and_right : (a b : Bool) → (a && b) ≡ true → b ≡ true
-and_right true b e = e
-and_right false b e = absurd (cc)
-
 module _ {X : Type 0} (n : X → ℕ) where
   least : (xs : List X) (m k : ℕ) (d : X) → never_drops m (map n xs) ≡ true → k < length xs → m ≤ n (get_or xs k d)
   least [] m k d s h = absurd (omega arith)
-  least (x ∷ xs) m zero d s h = let a = and_left (nat_le m (n x)) (never_drops (n x) (map n xs)) s in grind (arith, nat_tests)
+  least (x ∷ xs) m zero d s h = let a = (and_parts (nat_le m (n x)) (never_drops (n x) (map n xs)) s).0 in grind (arith, nat_tests)
   least (x ∷ xs) m (suc k) d s h =
-      let a = and_left (nat_le m (n x)) (never_drops (n x) (map n xs)) s in
-      let b : n x ≤ n (get_or xs k d) = least xs (n x) k d (and_right (nat_le m (n x)) _ s) (omega arith) in
-      grind (arith, nat_tests)
+      let a = and_parts (nat_le m (n x)) (never_drops (n x) (map n xs)) s in
+      let b : n x ≤ n (get_or xs k d) = least xs (n x) k d a.1 (omega arith) in
+      grind (arith, nat_tests, a.0)
 
   pub in_order : (xs : List X) (m : ℕ) → never_drops m (map n xs) ≡ true → (i j : ℕ) (d : X) → i ≤ j → j < length xs → n (get_or xs i d) ≤ n (get_or xs j d)
   in_order [] m s i j d le h = absurd (omega arith)
   in_order (x ∷ xs) m s zero zero d le h = omega arith
-  in_order (x ∷ xs) m s zero (suc j) d le h = least xs (n x) j d (and_right (nat_le m (n x)) _ s) (omega arith)
+  in_order (x ∷ xs) m s zero (suc j) d le h = least xs (n x) j d (and_parts (nat_le m (n x)) _ s).1 (omega arith)
   in_order (x ∷ xs) m s (suc i) zero d le h = absurd (omega arith)
-  in_order (x ∷ xs) m s (suc i) (suc j) d le h = in_order xs (n x) (and_right (nat_le m (n x)) _ s) i j d (omega arith) (omega arith)
+  in_order (x ∷ xs) m s (suc i) (suc j) d le h = in_order xs (n x) (and_parts (nat_le m (n x)) _ s).1 i j d (omega arith) (omega arith)
 
 filter_step : {X : Type 0} (p : X → Bool) (x : X) (xs : List X) (b : Bool) → p x ≡ b → filter p (x ∷ xs) ≡ cond b (x ∷ filter p xs) (filter p xs)
 filter_step p x xs b e = ap (λ b. cond b (x ∷ filter p xs) (filter p xs)) e
