@@ -23,7 +23,7 @@ pub struct Outcome {
 
 /// The text of a report. The lines of `need` and of `image` are left out where there is none. The
 /// text tells its entries.
-#[tactic(auto, using(crate::proofs::Telling::tells))]
+#[tactic(auto, using(crate::proofs::Telling::tells), unfolding(crate::specs::Report::report_text))]
 pub fn print_report(
     alloc: Global,
     need: Option<u32>,
@@ -34,21 +34,6 @@ pub fn print_report(
 ) -> Result<Vec<u8>, NoMemory>
     ensures text { IfOk result (λ text. text.items ≡ report_text need (option_copied image.entry) channels.now entries.now last.now) }
     ensures once { IfOk result (λ text. TellsEntries text.items need (option_copied image.entry) channels.now entries.now last.now) }
-{
-    let text = report_text(alloc, need, image, channels, entries, last)?;
-    Ok(text)
-}
-
-#[tactic(auto, unfolding(crate::specs::Report::report_text))]
-fn report_text(
-    alloc: Global,
-    need: Option<u32>,
-    image: Option<&Image>,
-    channels: &List<Channel>,
-    entries: &[Entry],
-    last: &Outcome,
-) -> Result<Vec<u8>, NoMemory>
-    ensures { IfOk result (λ text. text.items ≡ report_text need (option_copied image.entry) channels.now entries.now last.now) }
 {
     let mut text = Vec::new(alloc);
     put_need(&mut text, need)?;
