@@ -67,6 +67,7 @@ pub fn decode_word(bytes: &[u8; 12]) -> Result<Word, WordFault>
 }
 
 #[tactic(auto, unfolding(crate::specs::WordBytes::word_in))]
+#[inline(always)]
 fn decoded(bytes: &[u8; 12]) -> Result<Word, WordFault>
     ensures { result ≡ word_in bytes.now }
 {
@@ -82,6 +83,7 @@ fn decoded(bytes: &[u8; 12]) -> Result<Word, WordFault>
     }
 }
 
+#[inline(always)]
 fn fields_in(bytes: &[u8; 12]) -> Fields
     ensures { result ≡ fields_in bytes.now }
 {
@@ -93,6 +95,7 @@ fn fields_in(bytes: &[u8; 12]) -> Fields
     }
 }
 
+#[inline(always)]
 fn operation_in(operation: Option<Operation>, fields: Fields) -> Result<Instr<PReg>, WordFault>
     ensures { result ≡ operation_in operation fields }
 {
@@ -105,8 +108,29 @@ fn operation_in(operation: Option<Operation>, fields: Fields) -> Result<Instr<PR
     }
 }
 
-/// The instruction of an operation that has just these fields.
+/// The instruction of an operation that has just these fields. All arms say the same of their operation, by its
+/// roles: those that it shares with no other arm are known where it is compiled, so that no walk over them is left.
+#[inline(always)]
 fn instr_in(operation: Operation, fields: Fields) -> Option<Instr<PReg>>
+    ensures { result ≡ instr_in operation fields }
+{
+    match operation {
+        Operation::Li => instr_by_roles(Operation::Li, fields),
+        Operation::Mov => instr_by_roles(Operation::Mov, fields),
+        Operation::Alu(op) => instr_by_roles(Operation::Alu(op), fields),
+        Operation::Div(op) => instr_by_roles(Operation::Div(op), fields),
+        Operation::Jmp => instr_by_roles(Operation::Jmp, fields),
+        Operation::Branch(test) => instr_by_roles(Operation::Branch(test), fields),
+        Operation::Load => instr_by_roles(Operation::Load, fields),
+        Operation::Store => instr_by_roles(Operation::Store, fields),
+        Operation::Recv => instr_by_roles(Operation::Recv, fields),
+        Operation::Send => instr_by_roles(Operation::Send, fields),
+        _ => instr_by_roles(operation, fields),
+    }
+}
+
+#[inline(always)]
+fn instr_by_roles(operation: Operation, fields: Fields) -> Option<Instr<PReg>>
     ensures { result ≡ instr_in operation fields }
 {
     let operands = operands_from(fields, roles_of(operation));

@@ -17,6 +17,7 @@ pub(crate) struct Fields {
 }
 
 /// The fields of operands; one that is not there is 0.
+#[inline(always)]
 pub(crate) fn fields_of(operands: Operands<PReg, u32, u8>) -> Fields
     ensures all { result ≡ fields_of operands }
     ensures fits { result.wide < wide_limit operands.extra }
@@ -29,6 +30,7 @@ pub(crate) fn fields_of(operands: Operands<PReg, u32, u8>) -> Fields
     }
 }
 
+#[inline(always)]
 fn small_field(register: Option<PReg>) -> u8
     ensures { result ≡ small_field register }
 {
@@ -38,6 +40,7 @@ fn small_field(register: Option<PReg>) -> u8
     }
 }
 
+#[inline(always)]
 fn wide_field(extra: Extra<u32, u8>) -> u32
     ensures all { result ≡ wide_field extra }
     ensures fits { result < wide_limit extra }
@@ -50,6 +53,7 @@ fn wide_field(extra: Extra<u32, u8>) -> u32
 }
 
 /// The operands of these roles that the fields hold.
+#[inline(always)]
 pub(crate) fn operands_from(fields: Fields, roles: &[Role]) -> Operands<PReg, u32, u8>
     ensures { result ≡ operands_from fields roles.now }
 {
@@ -65,6 +69,7 @@ pub(crate) fn operands_from(fields: Fields, roles: &[Role]) -> Operands<PReg, u3
     operands
 }
 
+#[inline(always)]
 fn with_field(
     fields: Fields,
     operands: Operands<PReg, u32, u8>,

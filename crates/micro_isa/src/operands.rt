@@ -29,6 +29,7 @@ pub struct Operands<R, N, K> {
     pub extra: Extra<N, K>,
 }
 
+#[inline(always)]
 fn with<R: Copy>(
     to: Option<R>,
     a: Option<R>,
@@ -83,6 +84,7 @@ pub fn operands_of<R: Copy>(instr: &Instr<R>) -> Operands<R, u32, u8>
 }
 
 /// The instruction of this operation and these operands, where they are the operation's.
+#[inline(always)]
 pub fn instr_of<R: Copy>(operation: Operation, operands: Operands<R, u32, u8>) -> Option<Instr<R>>
     ensures { result ≡ instr_of operation operands }
 {

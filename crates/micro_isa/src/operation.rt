@@ -112,6 +112,7 @@ pub fn row_of(operation: Operation) -> Row
 }
 
 /// The operands of an operation, in the order of the text.
+#[inline(always)]
 pub fn roles_of(operation: Operation) -> &'static [Role]
     ensures { result.now ≡ roles_of operation }
 {
@@ -157,6 +158,7 @@ pub fn operation_named(word: &[u8]) -> Option<Operation>
 }
 
 /// The operation of an opcode.
+#[inline(always)]
 pub fn operation_coded(opcode: u8) -> Option<Operation>
     ensures { result ≡ coded opcode }
 {
@@ -166,6 +168,7 @@ pub fn operation_coded(opcode: u8) -> Option<Operation>
     }
 }
 
+#[inline(always)]
 fn operation_at(operations: &[Operation], place: usize) -> Option<Operation>
     ensures { result ≡ slice_get operations.now place }
 {
