@@ -108,8 +108,8 @@ fn operation_in(operation: Option<Operation>, fields: Fields) -> Result<Instr<PR
     }
 }
 
-/// The instruction of an operation that has just these fields. All arms say the same of their operation, by its
-/// roles: those that it shares with no other arm are known where it is compiled, so that no walk over them is left.
+/// The instruction of an operation that has just these fields. Each arm hands on its own operation, so that the
+/// roles are known where it is compiled, and no walk over them is left; the last arm serves every other operation.
 #[inline(always)]
 fn instr_in(operation: Operation, fields: Fields) -> Option<Instr<PReg>>
     ensures { result ≡ instr_in operation fields }
