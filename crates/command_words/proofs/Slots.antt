@@ -24,10 +24,6 @@ pub data Slot : Type 0 where
   second : Slot
   valued : OptionName → Slot
 
-abbrev pub option_text : OptionName → Text
-option_text steps = codes "steps"
-option_text order = codes "order"
-
 abbrev pub id_of : Slot → Text
 id_of first = codes "command"
 id_of second = codes "number"

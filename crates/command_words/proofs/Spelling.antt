@@ -55,14 +55,6 @@ pub and_false : (b : Bool) → (b && false) ≡ false
 and_false true = refl
 and_false false = refl
 
-pub and_left : (a b : Bool) → (a && b) ≡ true → a ≡ true
-and_left true b e = refl
-and_left false b e = e
-
-pub and_right : (a b : Bool) → (a && b) ≡ true → b ≡ true
-and_right true b e = e
-and_right false b e = absurd (true≢false (sym e))
-
 pub same_if : {X Y : Type 0} (b : Bool) (f : X → Y) (x : X) → f (if b then x else x) ≡ f x
 same_if true f x = refl
 same_if false f x = refl

@@ -1,6 +1,6 @@
 -- The walk of the command over all words gives just the parts that the words have.
 use Rattle.std.proofs.Common.{◌≡◌, ℕ, ◌++◌, ◌⊎◌, inl, inr, Bool, true, false, List, [], ◌∷◌, map, Option, Some, None, if◌then◌else◌, refl, sym, ◌∙◌, subst, fold}
-use Rattle.std.proofs.lemmas.Bool.{true≢false}
+use Rattle.std.proofs.lemmas.Bool.{true≢false, and_parts}
 use Rattle.std.specs.List.{list_all}
 use Rattle.std.specs.Str.{bytes_eq}
 use Rattle.std.specs.Option.{MatchOption}
@@ -10,7 +10,6 @@ use Rattle.clap.specs.Faults.{walk_fault, turn_fault, settle_fault}
 use Rattle.clap.specs.Kinds.{or_else}
 use Rattle.command_words.specs.Texts.{Text, OptionName, steps, order, Word, plain, names, sets, stray, Texts, Parts, begins_with_hyphen, hyphened, sets_one_of, after, word_of, texts_of}
 use Rattle.command_words.specs.Hyphens.{is_fit}
-use Rattle.command_words.proofs.Spelling.{and_left, and_right}
 use Rattle.command_words.proofs.Slots.{shape, rules, Slot, first, second, valued, id_of, part, rows_of, with_pending, with_used}
 use Rattle.command_words.specs.Spellings.{spelt, attached}
 use Rattle.command_words.proofs.WordSteps.{at, waits, Reads, reads, Fails, fails_left, hyphens_shape, walked_first, walked_second, passes_first, passes_second, fault_first, fault_second, fault_third, walked_name, passes_name, fault_name, walked_value, passes_value, fault_value, walked_attached, passes_attached, fault_attached, twice_pending, twice_attached, waits_bad, fault_hyphens, fault_plain}
@@ -110,7 +109,7 @@ held_bad : (h : Held) (p : Plains) (ws : List Text) → Fails (settle_fault rule
 unfolding walk_fault
 held_bad h p [] f fit = f
 held_bad h p (x ∷ xs) f fit =
-    let fit_x : is_fit x ≡ true = and_left (is_fit x) (list_all is_fit xs) fit in
+    let fit_x : is_fit x ≡ true = (and_parts (is_fit x) (list_all is_fit xs) fit).0 in
     let go : (b : Bool) → begins_with_hyphen x ≡ b → Fails (turn_fault shape [] (at h (position p)) x) = elim [
       | true ↦ λ e. let s = hyphens_shape x e fit_x in subst (λ (u : Text). Fails (turn_fault shape [] (at h (position p)) u)) (sym s.2) (fault_hyphens h (position p) idle s.0 s.1 f)
       | false ↦ λ e. fault_plain h (position p) x e f (which_position p)
@@ -200,11 +199,9 @@ value_missing n h k = waits_bad n h
 
 pub all_words : (ws : List Text) (q : State) (h : Held) → Stands h (parts q) → list_all is_fit ws ≡ true → Reaches (at h (position q.plains)) ws (reading q ws)
 all_words [] q h r fit = ends q h r
-all_words (w ∷ []) q h r fit = word_leads h q w [] r (and_left (is_fit w) true fit) ends (λ n. value_missing n h (position q.plains))
+all_words (w ∷ []) q h r fit = word_leads h q w [] r (and_parts (is_fit w) true fit).0 ends (λ n. value_missing n h (position q.plains))
 all_words (w ∷ v ∷ ws) q h r fit =
-    let fit_w = and_left (is_fit w) (list_all is_fit (v ∷ ws)) fit in
-    let fit_vs = and_right (is_fit w) (list_all is_fit (v ∷ ws)) fit in
-    let fit_v = and_left (is_fit v) (list_all is_fit ws) fit_vs in
-    let fit_ws = and_right (is_fit v) (list_all is_fit ws) fit_vs in
-    word_leads h q w (v ∷ ws) r fit_w (λ q' h' r'. all_words (v ∷ ws) q' h' r' fit_vs)
-    (λ n. value_leads n h q v ws r fit_v fit_ws (λ q' h' r'. all_words ws q' h' r' fit_ws))
+    let fit_w = and_parts (is_fit w) (list_all is_fit (v ∷ ws)) fit in
+    let fit_v = and_parts (is_fit v) (list_all is_fit ws) fit_w.1 in
+    word_leads h q w (v ∷ ws) r fit_w.0 (λ q' h' r'. all_words (v ∷ ws) q' h' r' fit_w.1)
+    (λ n. value_leads n h q v ws r fit_v.0 fit_v.1 (λ q' h' r'. all_words ws q' h' r' fit_v.1))

@@ -16,7 +16,7 @@ use Rattle.command_words.specs.Spellings.{spelt, attached}
 use Rattle.command_words.specs.Hyphens.{is_double, is_fit}
 use Rattle.command_words.proofs.Rows.{two_sides}
 use Rattle.command_words.proofs.Spelling.{named, after_only, none_some, and_false}
-use Rattle.command_words.proofs.Slots.{shape, rules, first, second, valued, id_of, option_text, option_built, rule_at, rows_of, with_pending, with_used}
+use Rattle.command_words.proofs.Slots.{shape, rules, first, second, valued, id_of, option_built, rule_at, rows_of, with_pending, with_used}
 
 -- the walk between two words
 abbrev pub at : Held → ℕ → Walk
@@ -211,23 +211,23 @@ Reads w (names n) = w ≡ spelt n
 Reads w (sets n v) = w ≡ attached n ++ v
 Reads w stray = (h : Held) (k : ℕ) → Fails (turn_fault shape [] (at h k) w)
 
-spelt_is : (n : OptionName) → spelt n ≡ 45 ∷ 45 ∷ option_text n
+spelt_is : (n : OptionName) → spelt n ≡ 45 ∷ 45 ∷ id_of (valued n)
 spelt_is steps = refl
 spelt_is order = refl
 
-attached_is : (n : OptionName) (v : Text) → after (attached n) (45 ∷ 45 ∷ (option_text n ++ 61 ∷ v)) ≡ Some v
+attached_is : (n : OptionName) (v : Text) → after (attached n) (45 ∷ 45 ∷ (id_of (valued n) ++ 61 ∷ v)) ≡ Some v
 attached_is steps v = refl
 attached_is order v = refl
 
-no_name : (n : OptionName) (x : ℕ) (xs : Text) (w : Text) → w ≡ 45 ∷ 45 ∷ x ∷ xs → bytes_eq w (spelt n) ≡ false → after (attached n) w ≡ None → bytes_eq (option_text n) (before_first (λ x. x == 61) (x ∷ xs)) ≡ false
+no_name : (n : OptionName) (x : ℕ) (xs : Text) (w : Text) → w ≡ 45 ∷ 45 ∷ x ∷ xs → bytes_eq w (spelt n) ≡ false → after (attached n) w ≡ None → bytes_eq (id_of (valued n)) (before_first (λ x. x == 61) (x ∷ xs)) ≡ false
 no_name n x xs w s other none =
-    let go : (b : Bool) → bytes_eq (option_text n) (before_first (λ x. x == 61) (x ∷ xs)) ≡ b → b ≡ false = elim [
+    let go : (b : Bool) → bytes_eq (id_of (valued n)) (before_first (λ x. x == 61) (x ∷ xs)) ≡ b → b ≡ false = elim [
       | true ↦ λ t. absurd (⊎_elim
-          (λ (m : (x ∷ xs) ≡ option_text n). two_sides (bytes_eq w (spelt n)) ((bytes_eq-Decides w (spelt n)).1 (s ∙ ap (λ u. 45 ∷ 45 ∷ u) m ∙ sym (spelt_is n))) other)
-          (λ (m : (v : Text) × ((x ∷ xs) ≡ option_text n ++ 61 ∷ v)). none_some m.0 (sym none ∙ ap (after (attached n)) (s ∙ ap (λ u. 45 ∷ 45 ∷ u) m.1) ∙ attached_is n m.0))
-          (named (option_text n) (x ∷ xs) t))
+          (λ (m : (x ∷ xs) ≡ id_of (valued n)). two_sides (bytes_eq w (spelt n)) ((bytes_eq-Decides w (spelt n)).1 (s ∙ ap (λ u. 45 ∷ 45 ∷ u) m ∙ sym (spelt_is n))) other)
+          (λ (m : (v : Text) × ((x ∷ xs) ≡ id_of (valued n) ++ 61 ∷ v)). none_some m.0 (sym none ∙ ap (after (attached n)) (s ∙ ap (λ u. 45 ∷ 45 ∷ u) m.1) ∙ attached_is n m.0))
+          (named (id_of (valued n)) (x ∷ xs) t))
       | false ↦ λ t. refl
-    ] in go (bytes_eq (option_text n) (before_first (λ x. x == 61) (x ∷ xs))) refl
+    ] in go (bytes_eq (id_of (valued n)) (before_first (λ x. x == 61) (x ∷ xs))) refl
 
 stray_fault : (w : Text) (x : ℕ) (xs : Text) → w ≡ 45 ∷ 45 ∷ x ∷ xs → bytes_eq w (spelt steps) ≡ false → bytes_eq w (spelt order) ≡ false → after (attached steps) w ≡ None → after (attached order) w ≡ None → Reads w stray
 stray_fault w x xs s e f a b h k =
