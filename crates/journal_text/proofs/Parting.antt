@@ -3,7 +3,7 @@ use Rattle.std.proofs.Common.{◌≡◌, ◌<◌, ◌≤◌, ℕ, zero, suc, ◌
 use Rattle.std.specs.Prelude.{position}
 use Rattle.std.specs.List.{list_all, prefix_len, position_or_len, before_first}
 use Rattle.std.proofs.Math.Seq.{drop-cons, take-length, take-append_seam}
-use Rattle.std.proofs.lemmas.Bool.{eqb-true, lt-ltb}
+use Rattle.std.proofs.lemmas.Bool.{and_parts, eqb-true, lt-ltb}
 use Rattle.std.proofs.lemmas.Bool.Decides.{nat_tests}
 use Rattle.std.proofs.lemmas.List.{take-append-drop, length-append}
 use Rattle.std.proofs.lemmas.Option.{same_Some}
@@ -28,14 +28,6 @@ both : (a b : Bool) → a ≡ true → b ≡ true → (a && b) ≡ true
 both true b e f = f
 both false b e f = e
 
-and_left : (a b : Bool) → (a && b) ≡ true → a ≡ true
-and_left true b e = refl
-and_left false b e = e
-
-and_right : (a b : Bool) → (a && b) ≡ true → b ≡ true
-and_right true b e = e
-and_right false b e = absurd (cc)
-
 not_so : (b : Bool) → b ≡ false → not b ≡ true
 not_so false e = refl
 not_so true e = sym e
@@ -45,10 +37,10 @@ so_not false e = refl
 so_not true e = sym e
 
 pub lacks_first : (s c : ℕ) (cs : List ℕ) → lacks s (c ∷ cs) ≡ true → (c == s) ≡ false
-lacks_first s c cs h = so_not (c == s) (and_left (not (c == s)) (lacks s cs) h)
+lacks_first s c cs h = so_not (c == s) (and_parts (not (c == s)) (lacks s cs) h).0
 
 pub lacks_rest : (s c : ℕ) (cs : List ℕ) → lacks s (c ∷ cs) ≡ true → lacks s cs ≡ true
-lacks_rest s c cs h = and_right (not (c == s)) (lacks s cs) h
+lacks_rest s c cs h = (and_parts (not (c == s)) (lacks s cs) h).1
 
 lacks_below : (s i : ℕ) (text : List ℕ) → ((k : ℕ) → k < i → (get_or text k 0 == s) ≡ false) → lacks s (take i text) ≡ true
 lacks_below s zero text h = refl
