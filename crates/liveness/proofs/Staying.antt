@@ -1,7 +1,7 @@
 -- Survivors and results of an instruction as sets.
 use Rattle.std.proofs.Common.{◌≡◌, ℕ, ◌*◌, ◌%◌, ◌^◌, ◌<◌, List, Option, Some, length, get_or, slice_get, ap, sym, subst, ◌∙◌, inl, inr, arith}
-use Rattle.std.specs.Prelude.{bit_and, bit_or, slice_index}
-use Rattle.std.specs.Int.{bit_at, bit_not, w128}
+use Rattle.std.specs.Prelude.{slice_index}
+use Rattle.std.specs.Int.{bit_at, w128}
 use Rattle.std.proofs.lemmas.Bool.{cases_eq}
 use Rattle.std.proofs.lemmas.Nat.Bits.{bit_at-zero, bit_at_set_same, bit_at_set_other}
 use Rattle.std.proofs.lemmas.Option.{slice_get-get_or, get_or_from_slice_get}
@@ -13,8 +13,7 @@ use Rattle.liveness.specs.declared.live.Live.{Live}
 use Rattle.liveness.specs.Liveness.{LiveOut}
 use Rattle.liveness.specs.Lives.{out_sets, IsLiveOf}
 use Rattle.liveness.specs.Sets.{IsSetOf}
-use Rattle.liveness.specs.Surviving.{WritesAt, Stays, IsAfter}
-use Rattle.liveness.proofs.Sizes.{union, difference}
+use Rattle.liveness.specs.Surviving.{WritesAt}
 
 pub alone : (register : VReg) → register.0 < 128 → IsSetOf (λ k. Some register ≡ Some (record { 0 = k })) (1 * 2 ^ register.0 % 2 ^ 128)
 alone register small =
@@ -48,24 +47,9 @@ module _ (code : List Line) (i : ℕ) (d : Line) (written : Option VReg) (is_wri
       let same = get_or_from_slice_get code i at.0 d at.1 in
       is_written ∙ ap (λ (y : Line). written_by y.instr) same ∙ at.2
 
-  module _ (out one : ℕ) (out_small : out < 2 ^ 128) (one_small : one < 2 ^ 128) (is_out : IsSetOf (LiveOut code i) out)
-      (is_one : IsSetOf (λ k. written ≡ Some (record { 0 = k })) one) where
-    pub stay_set : IsSetOf (Stays code i) (bit_and out (bit_not w128 one))
-    stay_set =
-        let all = difference (LiveOut code i) (λ k. written ≡ Some (record { 0 = k })) out one out_small one_small is_out is_one in record {
-          exact = λ k.
-              let both = all.exact k in (
-                λ bit. let p = both.0 bit in (p.0, λ at. p.1 (at_written k at)),
-                λ holds. both.1 (holds.0, λ e. holds.1 (written_at k e)),
-              );
-        }
-
-    pub after_set : IsSetOf (IsAfter code i) (bit_or out one)
-    after_set =
-        let all = union (LiveOut code i) (λ k. written ≡ Some (record { 0 = k })) out one is_out is_one in record {
-          exact = λ k.
-              let both = all.exact k in (
-                λ bit. elim (both.0 bit) [ inl live ↦ inl live | inr e ↦ inr (written_at k e) ],
-                elim [ inl live ↦ both.1 (inl live) | inr at ↦ both.1 (inr (at_written k at)) ],
-              );
-        }
+  pub written_set : (one : ℕ) → IsSetOf (λ k. written ≡ Some (record { 0 = k })) one → IsSetOf (WritesAt code i) one
+  written_set one is_one = record {
+    exact = λ k.
+        let both = is_one.exact k in
+        (λ bit. written_at k (both.0 bit), λ at. both.1 (at_written k at));
+  }

@@ -3,11 +3,20 @@ ghost use Rattle.flow_graph.specs.Paths.{IsClosedCode};
 ghost use Rattle.liveness.specs.Lives.{IsLiveOf};
 ghost use Rattle.liveness.specs.Liveness.{LiveIn};
 ghost use Rattle.liveness.specs.Sets.{IsSetOf};
-ghost use Rattle.liveness.specs.Surviving.{SwitchesAt, Stays, IsAfter, Crosses};
+ghost use Rattle.liveness.specs.Surviving.{SwitchesAt, WritesAt, Stays, IsAfter, Crosses};
 
 use crate::live::Live;
 use crate::set::register_set;
 use micro_isa::{Line, switches, writes};
+
+/// The register that instruction `i` writes, if any, as a set.
+fn written(code: &[Line], i: usize) -> u128
+    requires closed { IsClosedCode code.now }
+    requires here { i < length code.now }
+    ensures { IsSetOf (WritesAt code.now i) result }
+{
+    register_set(writes(&code[i].instr))
+}
 
 /// The registers that survive instruction `i`: live out, and not written by it.
 pub fn survivors(code: &[Line], live: &Live, i: usize) -> u128
@@ -16,7 +25,7 @@ pub fn survivors(code: &[Line], live: &Live, i: usize) -> u128
     requires here { i < length code.now }
     ensures { IsSetOf (Stays code.now i) result }
 {
-    live.live_out(i as u32) & !register_set(writes(&code[i].instr))
+    live.live_out(i as u32) & !written(code, i)
 }
 
 /// The registers that have a value after instruction `i`: live out, or written by it.
@@ -26,7 +35,7 @@ pub fn values_after(code: &[Line], live: &Live, i: usize) -> u128
     requires here { i < length code.now }
     ensures { IsSetOf (IsAfter code.now i) result }
 {
-    live.live_out(i as u32) | register_set(writes(&code[i].instr))
+    live.live_out(i as u32) | written(code, i)
 }
 
 /// The registers that cross at instruction `i`: they survive a switch there, or are live at the
