@@ -3,14 +3,12 @@ ghost use Rattle.std.specs.List.{list_any};
 ghost use Rattle.micro_isa.specs.Formed.{gives_words, takes_words};
 ghost use Rattle.asm_lines.specs.Numbers.{is_no_number};
 ghost use Rattle.asm_lines.specs.Tables.{words_seen, knows, misnamed, one};
-ghost use Rattle.asm_context.specs.Forms.{number_in, goes_to};
+ghost use Rattle.asm_context.specs.Forms.{number_in};
 ghost use Rattle.asm_context.specs.Faults.{channels, is_misnamed, is_loose, gives_none, takes_none, body_fault};
 ghost use Rattle.asm_context.specs.Views.{seen_operands, seen_form, seen_body, seen_said, seen_outline};
 ghost use Rattle.micro_isa.specs.Columns.{registers};
 
-use crate::form::{
-    Body, Form, does, ends, extra_in, goes_to, operands_of, receives_from, sends_to,
-};
+use crate::form::{Body, Form, does, ends, extra_in, named, operands_of};
 use crate::outline::Outline;
 use crate::said::Said;
 use crate::spelt::Spelt;
@@ -27,11 +25,12 @@ fn are_misnamed(operands: Spelt) -> bool
 fn has_bad_name(body: Body) -> bool
     ensures { result ≡ is_misnamed (seen_body body.entry) }
 {
+    let line = named(body.form);
     is_misnamed(body.label)
         || are_misnamed(operands_of(body.form))
-        || is_misnamed(goes_to(body.form))
-        || is_misnamed(receives_from(body.form))
-        || is_misnamed(sends_to(body.form))
+        || is_misnamed(line.goes_to)
+        || is_misnamed(line.receives_from)
+        || is_misnamed(line.sends_to)
 }
 
 fn has_bad_number(form: Form) -> bool
@@ -105,15 +104,14 @@ pub fn body_fault<'a>(
     if twice {
         return Some(BundleKind::LabelTwice);
     }
-    if is_stray(names, receives_from(body.form)) || is_stray(names, sends_to(body.form)) {
+    let line = named(body.form);
+    if is_stray(names, line.receives_from) || is_stray(names, line.sends_to) {
         return Some(BundleKind::ChannelUnknown);
     }
-    if gives_none(names, kinds, receives_from(body.form))
-        || takes_none(names, kinds, sends_to(body.form))
-    {
+    if gives_none(names, kinds, line.receives_from) || takes_none(names, kinds, line.sends_to) {
         return Some(BundleKind::ChannelKind);
     }
-    if is_stray(&all.labels, goes_to(body.form)) {
+    if is_stray(&all.labels, line.goes_to) {
         return Some(BundleKind::LabelUnknown);
     }
     if now.done == all.done && is_loose(body) {

@@ -28,6 +28,20 @@ pub struct Body<'a> {
     pub form: Form<'a>,
 }
 
+/// What a line names beside its registers.
+#[derive(Clone, Copy)]
+pub struct LineNames<'a> {
+    pub goes_to: Option<&'a [u8]>,
+    pub receives_from: Option<&'a [u8]>,
+    pub sends_to: Option<&'a [u8]>,
+}
+
+const UNNAMED: LineNames<'static> = LineNames {
+    goes_to: None,
+    receives_from: None,
+    sends_to: None,
+};
+
 #[inline(always)]
 fn form_of<'a>(words: &[&'a [u8]]) -> Form<'a>
     ensures { seen_form result ≡ form_of (words_seen words.now) }
@@ -131,33 +145,27 @@ pub fn extra_in<'a>(form: Form<'a>) -> Extra<&'a [u8], &'a [u8]>
     }
 }
 
-/// The label that a line goes to.
-pub fn goes_to<'a>(form: Form<'a>) -> Option<&'a [u8]>
-    ensures { option_map (λ n. n.now) result ≡ goes_to (seen_form form.entry) }
+/// The label that a line goes to, and the channels that it receives from and sends to.
+pub fn named<'a>(form: Form<'a>) -> LineNames<'a>
+    ensures target { option_map (λ n. n.now) result.goes_to ≡ goes_to (seen_form form.entry) }
+    ensures source { option_map (λ n. n.now) result.receives_from ≡ receives_from (seen_form form.entry) }
+    ensures sink { option_map (λ n. n.now) result.sends_to ≡ sends_to (seen_form form.entry) }
 {
     match extra_in(form) {
-        Extra::Target(label) => Some(label),
-        _ => None,
-    }
-}
-
-/// The channel that a line receives from.
-pub fn receives_from<'a>(form: Form<'a>) -> Option<&'a [u8]>
-    ensures { option_map (λ n. n.now) result ≡ receives_from (seen_form form.entry) }
-{
-    match extra_in(form) {
-        Extra::Receive(channel) => Some(channel),
-        _ => None,
-    }
-}
-
-/// The channel that a line sends to.
-pub fn sends_to<'a>(form: Form<'a>) -> Option<&'a [u8]>
-    ensures { option_map (λ n. n.now) result ≡ sends_to (seen_form form.entry) }
-{
-    match extra_in(form) {
-        Extra::Send(channel) => Some(channel),
-        _ => None,
+        Extra::Target(label) => LineNames {
+            goes_to: Some(label),
+            ..UNNAMED
+        },
+        Extra::Receive(channel) => LineNames {
+            receives_from: Some(channel),
+            ..UNNAMED
+        },
+        Extra::Send(channel) => LineNames {
+            sends_to: Some(channel),
+            ..UNNAMED
+        },
+        Extra::Nothing => UNNAMED,
+        Extra::Number(_) => UNNAMED,
     }
 }
 
