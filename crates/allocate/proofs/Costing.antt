@@ -1,6 +1,6 @@
 -- What cells cost, by the costs of fits and of the walk.
-use Rattle.std.proofs.Common.{◌≡◌, ℕ, ◌+◌, ◌<◌, ◌≤◌, ◌⊎◌, min, true, List, Option, Some, None, refl, sym, ap, subst, ◌∙◌, arith, inl, inr}
-use Rattle.std.specs.Prelude.{IfSome, slice_index}
+use Rattle.std.proofs.Common.{◌≡◌, ℕ, ◌+◌, ◌<◌, ◌≤◌, ◌⊎◌, min, Bool, true, false, List, Option, Some, None, refl, sym, ap, subst, ◌∙◌, arith, inl, inr}
+use Rattle.std.specs.Prelude.{IfSome, slice_index, if◌then◌else◌}
 use Rattle.std.proofs.lemmas.Bool.{cases_lt}
 use Rattle.micro_isa.specs.declared.limits.TheConstants.{MOST_FILE}
 use Rattle.budget.specs.declared.TheConstants.{SIZES}
@@ -25,8 +25,9 @@ use Rattle.emit.specs.Sized.{with_places}
 use Rattle.allocate.specs.declared.kept.Kept.{Kept}
 use Rattle.allocate.specs.declared.priced.PricedWalk.{PricedWalk}
 use Rattle.allocate.specs.Cells.{IsCell, IsCellOf, all_places}
-use Rattle.allocate.specs.Fits.{AreRegionCosts}
-use Rattle.allocate.specs.Tables.{Costs, HasRows, IsCellPlan, IsFitCost, IsFreeFrom, IsKept, IsKeptBy, IsPriced, IsRegionCost, AreWalkCosts, IsWalkCost, IsWalkKept, lesser_cost}
+use Rattle.allocate.specs.declared.region_costs.RegionCosts.TheVariants.{Exact}
+use Rattle.allocate.specs.Fits.{AreRegionCosts, IsDearer}
+use Rattle.allocate.specs.Tables.{Costs, HasRows, IsCellPlan, IsFreeFrom, IsKept, IsKeptBy, IsPriced, IsRegionCost, AreWalkCosts, IsWalkCost, IsWalkKept, lesser_cost}
 use Rattle.allocate.proofs.Still.{whole_no_glue}
 
 module _ (code : List Line) (p r : ℕ) where
@@ -40,46 +41,41 @@ module _ (code : List Line) (p r : ℕ) where
     least = λ x is. let same = ap (glue_of code) (walk_once code p r x walked is walk) in omega arith;
   }))
 
-  -- the walk costs less
-  pub walk_cell : (cost other : ℕ) (plan walked : Plan) → IsWholeFit code p r None → IsRegionFit code p r (Some plan) → cost ≡ glue_of code plan
-      → IsWalk code p r walked → other ≡ glue_of code walked → other < cost → IsCell code p r other walked
-  walk_cell cost other plan walked out fit glue walk walk_glue less = inr (inr (record {
-    out = out;
-    walk = walk;
-    glue = walk_glue;
-    least = λ x is. let same = ap (glue_of code) (some_same x plan (region_once code p r (Some x) (Some plan) is fit)) in omega arith;
-  }))
+  -- the walk costs less than any plan by the fits over the regions
+  pub walk_cell : (other : ℕ) (walked : Plan) → IsWholeFit code p r None → IsWalk code p r walked → other ≡ glue_of code walked → IsDearer code p r other → IsCell code p r other walked
+  walk_cell other walked out walk walk_glue dearer = inr (inr (record { out = out; walk = walk; glue = walk_glue; least = dearer }))
+
+  -- the plan by the fits over the regions costs more
+  pub dearer_plan : (cost other : ℕ) (plan : Plan) → IsRegionFit code p r (Some plan) → cost ≡ glue_of code plan → other < cost → IsDearer code p r other
+  dearer_plan cost other plan fit glue less x is = let same = ap (glue_of code) (some_same x plan (region_once code p r (Some x) (Some plan) is fit)) in omega arith
     where
       some_same : (x y : Plan) → Some x ≡ Some y → x ≡ y
       some_same x y e = cc
 
   -- the fit over some region runs out
-  pub lone_cell : (other : ℕ) (walked : Plan) → IsWholeFit code p r None → IsRegionFit code p r None → IsWalk code p r walked → other ≡ glue_of code walked → IsCell code p r other walked
-  lone_cell other walked out none walk walk_glue = inr (inr (record {
-    out = out;
-    walk = walk;
-    glue = walk_glue;
-    least = λ x is. absurd (let e = region_once code p r (Some x) None is none in cc);
-  }))
+  pub dearer_none : (other : ℕ) → IsRegionFit code p r None → IsDearer code p r other
+  dearer_none other none x is = absurd (let e = region_once code p r (Some x) None is none in cc)
 
-  -- a plan by the fits that costs nothing
-  pub free_cell : IsFitCost code p r (Some 0) → Costs code p r 0
-  free_cell (inl whole) = (whole.0, inl (record { fit = whole.1; free = refl }))
-  free_cell (inr region) = (region.1.0, inr (inl (record { out = region.0; fit = region.1.1; glue = region.1.2; least = λ x is. let none = region.1.2 in omega arith })))
+  -- there is no cost since the fits do not fit
+  pub dearer_out : (fits : List Fit) (other : ℕ) (b : Bool) (cost : ℕ) → DoFit fits p r b → (if b then Some cost else None) ≡ None → (DoFit fits p r false → IsRegionFit code p r None) → IsDearer code p r other
+  dearer_out fits other true cost test none out = absurd (cc)
+  dearer_out fits other false cost test none out = dearer_none other (out test)
 
-  pub lesser_cell : (found : Option ℕ) (walked : ℕ) → IsFitCost code p r found → IsWalkCost code p r walked → Costs code p r (lesser_cost found walked)
-  lesser_cell None walked fit walk = (walk.0, lone_cell walked walk.0 fit.0 fit.1 walk.1 walk.2)
-  lesser_cell (Some cost) walked (inl whole) walk =
-      let none = whole.2 in
-      let free : min cost walked ≡ 0 = omega arith in
-      (whole.0, inl (record { fit = whole.1; free = free }))
-  lesser_cell (Some cost) walked (inr region) walk = elim (cases_lt walked cost) [
+  -- a plan by the fits over the regions that costs nothing
+  pub free_cell : IsWholeFit code p r None → IsRegionCost code p r 0 → Costs code p r 0
+  free_cell out region = (region.0, inr (inl (record { out = out; fit = region.1; glue = region.2; least = λ x is. let none = region.2 in omega arith })))
+
+  -- the lesser of both
+  pub lesser_cell : (found : Option ℕ) (walked : ℕ) → IsWholeFit code p r None → IfSome found (IsRegionCost code p r) → (found ≡ None → IsDearer code p r walked) → IsWalkCost code p r walked
+      → Costs code p r (lesser_cost found walked)
+  lesser_cell None walked out region dearer walk = (walk.0, walk_cell walked walk.0 out walk.1 walk.2 (dearer refl))
+  lesser_cell (Some cost) walked out region dearer walk = elim (cases_lt walked cost) [
     | inl less ↦
         let is : walked ≡ min cost walked = omega arith in
-        (walk.0, subst (λ n. IsCell code p r n walk.0) is (walk_cell cost walked region.1.0 walk.0 region.0 region.1.1 region.1.2 walk.1 walk.2 less))
+        (walk.0, subst (λ n. IsCell code p r n walk.0) is (walk_cell walked walk.0 out walk.1 walk.2 (dearer_plan cost walked region.0 region.1 region.2 less)))
     | inr more ↦
         let is : cost ≡ min cost walked = omega arith in
-        (region.1.0, subst (λ n. IsCell code p r n region.1.0) is (region_cell cost walked region.1.0 walk.0 region.0 region.1.1 region.1.2 walk.1 walk.2 (omega arith)))
+        (region.0, subst (λ n. IsCell code p r n region.0) is (region_cell cost walked region.0 walk.0 out region.1 region.2 walk.1 walk.2 (omega arith)))
   ]
 
 -- a cell costs its plan's glue
@@ -87,13 +83,6 @@ pub cell_glue : (code : List Line) (p r cost : ℕ) (plan : Plan) → IsClosedCo
 cell_glue code p r cost plan closed (inl one) = one.free ∙ sym (whole_no_glue code p r plan closed one.fit)
 cell_glue code p r cost plan closed (inr (inl one)) = one.glue
 cell_glue code p r cost plan closed (inr (inr one)) = one.glue
-
--- both plans by the fits over the regions are one
-pub region_costs_same : (code : List Line) (p r cost : ℕ) (plan other : Plan) → IsRegionFit code p r (Some plan) → cost ≡ glue_of code plan → IsRegionFit code p r (Some other) → cost ≡ glue_of code other
-region_costs_same code p r cost plan other fit glue also = glue ∙ ap (glue_of code) (some_plan plan other (region_once code p r (Some plan) (Some other) fit also))
-  where
-    some_plan : (x y : Plan) → Some x ≡ Some y → x ≡ y
-    some_plan x y e = cc
 
 -- what runs out of more places runs out of fewer
 pub region_out : (code : List Line) (p r m n : ℕ) → p ≤ m → r ≤ n → IsRegionFit code m n None → IsRegionFit code p r None
@@ -115,15 +104,10 @@ region_out code p r m n le_p le_r none =
       ),
     )
 
--- where the fit over the whole program runs out, what the fits over the regions cost
-pub fit_cost_is : (code : List Line) (p r : ℕ) (found : Option ℕ) → IsWholeFit code p r None → IsRegionCost code p r found → IsFitCost code p r found
-fit_cost_is code p r None out region = (out, region)
-fit_cost_is code p r (Some cost) out region = inr (out, region)
-
 -- one plan by the fits over the regions tells what they cost, whatever the number of places
 pub region_costs_are : (code : List Line) (regions : Regions) (are : AreRegionsOf code regions) (fits : List Fit) (are_fits : AreFits code regions fits) (from : ℕ) (plan : Plan) (costs : List ℕ)
     → ((m n : ℕ) → m ≤ n → n ≤ MOST_FILE → DoFit fits m n true → IsRegionFit code m n (Some (record { p = m; r = n; rows = plan.rows })))
-    → ((j : ℕ) → j < SIZES → slice_index costs j ≡ glue_of code (with_places plan (from + j))) → AreRegionCosts code from fits (Some costs)
+    → ((j : ℕ) → j < SIZES → slice_index costs j ≡ glue_of code (with_places plan (from + j))) → AreRegionCosts code from fits (Exact costs)
 region_costs_are code regions are fits are_fits from plan costs serves numbers j p less order few = (
   λ out. region_none code regions are fits are_fits p (from + j) out,
   λ test. (record { p = p; r = from + j; rows = plan.rows }, serves p (from + j) order few test, numbers j less),

@@ -1,4 +1,5 @@
 pub mod Zipping
+pub mod Falls
 pub mod Still
 pub mod Unpriced
 pub mod Existing

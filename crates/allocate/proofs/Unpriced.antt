@@ -1,5 +1,5 @@
 -- Where the walk costs nothing each cell costs nothing, whatever the fits over the regions cost.
-use Rattle.std.proofs.Common.{◌≡◌, ℕ, zero, suc, ◌+◌, ◌*◌, ◌≤◌, min, Bool, true, false, List, [], ◌∷◌, Option, Some, None, replicate, refl, subst, arith, inl, inr}
+use Rattle.std.proofs.Common.{◌≡◌, ℕ, zero, suc, ◌+◌, ◌*◌, ◌≤◌, min, Bool, true, false, List, [], ◌∷◌, Some, None, replicate, refl, subst, arith, inl}
 use Rattle.std.specs.Prelude.{slice_get, slice_index}
 use Rattle.std.proofs.lemmas.List.{length-replicate}
 use Rattle.std.proofs.lemmas.Option.{same_Some}
@@ -17,10 +17,10 @@ use Rattle.range_colour.specs.Regional.{DoFit, fits_test, places_for}
 use Rattle.range_colour.proofs.Grouping.{region_none, region_some}
 use Rattle.emitted.specs.Words.{glue_of}
 use Rattle.allocate.specs.declared.fits.Fits.{Fits}
-use Rattle.allocate.specs.Fits.{AreMadeOf, TellsWhole}
-use Rattle.allocate.specs.Tables.{AreRows, Costs, IsFitCost, IsFreeFrom, IsWalkCost}
-use Rattle.allocate.proofs.Costing.{lesser_cell}
-use Rattle.allocate.proofs.Existing.{rows_there, whole_tells}
+use Rattle.allocate.specs.Fits.{AreFitsOf, TellsWhole}
+use Rattle.allocate.specs.Tables.{AreRows, Costs, IsFreeFrom, IsWalkCost}
+use Rattle.allocate.proofs.Costing.{dearer_none, lesser_cell}
+use Rattle.allocate.proofs.Existing.{rows_there}
 use Rattle.allocate.proofs.Filling.{zeros}
 
 all_more : (f : Fit) (fits : List Fit) (p r : ℕ) → fits_test f p r ≡ true → ((g : ℕ) (fit : Fit) → slice_get fits g ≡ Some fit → fits_test fit p r ≡ true)
@@ -37,30 +37,26 @@ do_fit_there (f ∷ fits) p r = by (fits_test f p r) refl (do_fit_there fits p r
     by false test rest = (false, record { all = λ e. absurd (cc); some = λ e. (0, f, refl, test) })
     by true test rest = (rest.0, record { all = λ e. all_more f fits p r test (rest.1.all e); some = λ e. let one = rest.1.some e in (suc one.0, one.1, one.2, one.3) })
 
--- the plan by the fits over the regions is there where all fit
-region_there : (code : List Line) (live : Live) (fits : Fits) (p r : ℕ) → IsClosedCode code → IsLiveOf code live → AreMadeOf code fits → p ≤ r → r ≤ MOST_FILE → IsWholeFit code p r None
-    → (b : Bool) → DoFit fits.regions p r b → (found : Option ℕ) × IsFitCost code p r found
-region_there code live fits p r closed is made order few out false test = (None, (out, region_none code fits.division made.division fits.regions made.parts p r test))
-region_there code live fits p r closed is made order few out true test =
+-- where the fit over the whole program runs out and the walk costs nothing, the cell costs nothing
+moved_cell : (code : List Line) (live : Live) (fits : Fits) (p r : ℕ) → IsClosedCode code → IsLiveOf code live → AreFitsOf code fits → p ≤ r → r ≤ MOST_FILE → IsWholeFit code p r None
+    → IsWalkCost code p r 0 → (b : Bool) → DoFit fits.regions p r b → Costs code p r 0
+moved_cell code live fits p r closed is made order few out walk false test =
+    lesser_cell code p r None 0 out tt (λ e. dearer_none code p r 0 (region_none code fits.division made.division fits.regions made.parts p r test)) walk
+moved_cell code live fits p r closed is made order few out walk true test =
     let rows = rows_there code live (λ i. slice_index (places_for fits.division fits.regions i)) closed is in
     let plan : Plan = record { p = p; r = r; rows = rows.0 } in
     let fit = region_some code fits.division made.division fits.regions made.parts p r order few test rows.0 rows.1 in
-    (Some (glue_of code plan), inr (out, (plan, fit, refl)))
+    let least : min (glue_of code plan) 0 ≡ 0 = omega arith in
+    subst (Costs code p r) least (lesser_cell code p r (Some (glue_of code plan)) 0 out (plan, fit, refl) (λ e. absurd (cc)) walk)
 
--- what a plan by fits costs, if there is one
-fit_cost_there : (code : List Line) (live : Live) (fits : Fits) (p r : ℕ) → IsClosedCode code → IsLiveOf code live → AreMadeOf code fits → p ≤ r → r ≤ MOST_FILE → (found : Option ℕ) × IsFitCost code p r found
-fit_cost_there code live fits p r closed is made order few =
-    by (fits_test fits.whole p r) (whole_tells code live fits.whole p r closed is made.fit order few)
+zero_cell : (code : List Line) (live : Live) (fits : Fits) (p r : ℕ) → IsClosedCode code → IsLiveOf code live → AreFitsOf code fits → p ≤ r → r ≤ MOST_FILE → IsWalkCost code p r 0 → Costs code p r 0
+zero_cell code live fits p r closed is made order few walk = by (fits_test fits.whole p r) (made.whole p r order few)
   where
-    by : (b : Bool) → TellsWhole code p r b → (found : Option ℕ) × IsFitCost code p r found
-    by true whole = (Some 0, inl (whole.0, whole.1, refl))
-    by false out = let test = do_fit_there fits.regions p r in region_there code live fits p r closed is made order few out test.0 test.1
+    by : (b : Bool) → TellsWhole code p r b → Costs code p r 0
+    by true whole = (whole.0, inl (record { fit = whole.1; free = refl }))
+    by false out = let test = do_fit_there fits.regions p r in moved_cell code live fits p r closed is made order few out walk test.0 test.1
 
-zero_cell : (code : List Line) (p r : ℕ) (found : Option ℕ) → IsFitCost code p r found → IsWalkCost code p r 0 → Costs code p r 0
-zero_cell code p r None fit walk = lesser_cell code p r None 0 fit walk
-zero_cell code p r (Some cost) fit walk = let least : min cost 0 ≡ 0 = omega arith in subst (Costs code p r) least (lesser_cell code p r (Some cost) 0 fit walk)
-
-pub walked_rows : (code : List Line) (live : Live) (fits : Fits) (part : Pressure) (most : ℕ) → IsClosedCode code → IsLiveOf code live → AreMadeOf code fits → most ≤ MOST_FILE
+pub walked_rows : (code : List Line) (live : Live) (fits : Fits) (part : Pressure) (most : ℕ) → IsClosedCode code → IsLiveOf code live → AreFitsOf code fits → most ≤ MOST_FILE
     → IsFreeFrom code part.private part.all → AreRows code part most SIZES (replicate (SIZES * SIZES) 0)
 walked_rows code live fits part most closed is made few free = record {
   long = length-replicate {A = ℕ} (SIZES * SIZES) 0;
@@ -68,6 +64,5 @@ walked_rows code live fits part most closed is made few free = record {
   rows = λ i j less col order reach.
       let p = part.private + i in
       let r = part.all + j in
-      let found = fit_cost_there code live fits p r closed is made order (omega arith) in
-      rw (zeros (SIZES * SIZES) (i * SIZES + j)) (zero_cell code p r found.0 found.1 (free p j (omega arith) col));
+      rw (zeros (SIZES * SIZES) (i * SIZES + j)) (zero_cell code live fits p r closed is made order (omega arith) (free p j (omega arith) col));
 }

@@ -1,5 +1,5 @@
 -- What is known while cells are computed.
-use Rattle.std.specs.Prelude.{ℕ, ◌≡◌, ◌+◌, ◌*◌, ◌<◌, ◌≤◌, ◌⊎◌, List, Option, Some, None, IfSome, true, length, min, slice_get, slice_index}
+use Rattle.std.specs.Prelude.{ℕ, ◌≡◌, ◌+◌, ◌*◌, ◌<◌, ◌≤◌, List, Option, Some, None, IfSome, true, length, min, slice_get, slice_index}
 use Rattle.std.specs.List.{AllZip}
 use Rattle.micro_isa.specs.declared.program.Line.{Line}
 use Rattle.micro_isa.specs.declared.program.Program.{Program}
@@ -9,7 +9,7 @@ use Rattle.plan.specs.declared.row.Plan.{Plan}
 use Rattle.plan.specs.ValidPlans.{IsValidPlan}
 use Rattle.range_colour.specs.Fits.{IsFit}
 use Rattle.range_colour.specs.Groups.{Every}
-use Rattle.range_colour.specs.PlacedPlans.{IsWholeFit, IsRegionFit}
+use Rattle.range_colour.specs.PlacedPlans.{IsRegionFit}
 use Rattle.range_colour.specs.Regional.{fits_test}
 use Rattle.point_walk.specs.Walks.{IsWalk}
 use Rattle.point_walk.specs.Lasting.{IsLasting}
@@ -21,12 +21,14 @@ use Rattle.emit.specs.Sized.{with_places}
 use Rattle.emitted.specs.Words.{glue_of}
 use Rattle.allocate.specs.declared.cell.Planned.{Planned}
 use Rattle.allocate.specs.declared.kept.Kept.{Kept}
-use Rattle.allocate.specs.declared.kept.Kept.TheVariants.{Free, Walked, Costly}
+use Rattle.allocate.specs.declared.kept.Kept.TheVariants.{Free, Fitted}
 use Rattle.allocate.specs.declared.priced.PricedWalk.{PricedWalk}
+use Rattle.allocate.specs.declared.region_costs.RegionCosts.{RegionCosts}
+use Rattle.allocate.specs.declared.region_costs.RegionCosts.TheVariants.{Unknown, Above, RunOut, Exact}
 use Rattle.allocate.specs.declared.allocation.AllocFault.{AllocFault}
 use Rattle.allocate.specs.declared.allocation.AllocFault.TheVariants.{NoFit, NoMemory}
 use Rattle.allocate.specs.Cells.{IsCell, IsCellOf}
-use Rattle.allocate.specs.Fits.{AreFitsOf, AreMadeOf}
+use Rattle.allocate.specs.Fits.{AreFitsOf}
 
 -- some plan costs so much with these numbers of places
 abbrev pub Costs : List Line → ℕ → ℕ → ℕ → Type 0
@@ -36,17 +38,20 @@ Costs code p r cost = (plan : Plan) × IsCell code p r cost plan
 abbrev pub IsCellPlan : List Line → ℕ → ℕ → Plan → Type 0
 IsCellPlan code p r plan = (cost : ℕ) × IsCell code p r cost plan
 
--- what the fit over each region costs, where it has a plan
-abbrev pub IsRegionCost : List Line → ℕ → ℕ → Option ℕ → Type 0
-IsRegionCost code p r None = IsRegionFit code p r None
-IsRegionCost code p r (Some cost) = (plan : Plan) × IsRegionFit code p r (Some plan) × (cost ≡ glue_of code plan)
+-- the fit over each region has a plan, which costs so much
+abbrev pub IsRegionCost : List Line → ℕ → ℕ → ℕ → Type 0
+IsRegionCost code p r cost = (plan : Plan) × IsRegionFit code p r (Some plan) × (cost ≡ glue_of code plan)
 
--- what a plan by fits costs, where there is one
-abbrev pub IsFitCost : List Line → ℕ → ℕ → Option ℕ → Type 0
-IsFitCost code p r None = IsWholeFit code p r None × IsRegionFit code p r None
-IsFitCost code p r (Some cost) =
-    ((plan : Plan) × IsWholeFit code p r (Some plan) × (cost ≡ 0))
-    ⊎ (IsWholeFit code p r None × IsRegionCost code p r (Some cost))
+-- what is known of the plans by the fits over the regions tells them from a walk that costs so much
+abbrev pub IsAbove : RegionCosts → ℕ → Type 0
+IsAbove Unknown walked = ⊥
+IsAbove (Above words) walked = walked ≤ words
+IsAbove RunOut walked = Unit {0}
+IsAbove (Exact costs) walked = Unit {0}
+
+-- from walks that cost so much
+abbrev pub AreAbove : RegionCosts → List ℕ → Type 0
+AreAbove costs walked = (j : ℕ) → j < SIZES → IsAbove costs (slice_index walked j)
 
 -- the lesser of what a plan by fits costs, if there is one, and what the walk costs
 abbrev pub lesser_cost : Option ℕ → ℕ → ℕ
@@ -86,11 +91,10 @@ pub record IsWalkPlanned (code : List Line) (p r : ℕ) (found : Planned) : Type
   pub cost : found.cost ≡ glue_of code found.plan
   pub valid : IsValidPlan code found.plan
 
--- the fit over the whole program serves the pressures, or the fits are those of the program, with their costs or without
+-- the fit over the whole program serves the pressures, or the fits are those of the program
 abbrev pub IsKeptBy : List Line → Pressure → Kept → Type 0
 IsKeptBy code part (Free fit) = IsFit code Every fit × (fits_test fit part.private part.all ≡ true)
-IsKeptBy code part (Walked fits) = AreMadeOf code fits
-IsKeptBy code part (Costly fits) = AreFitsOf code part.all fits
+IsKeptBy code part (Fitted fits) = AreFitsOf code fits
 
 -- the fits of a context that were kept
 pub record IsKept (code : List Line) (kept : Kept) : Type 0 where

@@ -5,14 +5,13 @@ ghost use Rattle.micro_isa.specs.declared.program.Line.{Line as CodeLine};
 ghost use Rattle.flow_graph.specs.Paths.{IsClosedCode};
 ghost use Rattle.liveness.specs.Lives.{IsLiveOf};
 ghost use Rattle.liveness.specs.Pressures.{IsPrivatePressure, IsTotalPressure};
-ghost use Rattle.pressure.specs.Regions.{AreRegionsOf};
 ghost use Rattle.plan.specs.ValidPlans.{IsValidPlan};
 ghost use Rattle.range_colour.specs.PlacedPlans.{IsRegionFit, IsWholeFit};
-ghost use Rattle.range_colour.specs.Regional.{AreFits};
-ghost use Rattle.allocate.specs.Fits.{AreFitsOf, AreMadeOf};
-ghost use Rattle.allocate.specs.Tables.{IsCellPlan, IsPriced, IsRegionCost, IsWalkPlanned};
+ghost use Rattle.allocate.specs.Fits.{AreFitsOf};
+ghost use Rattle.allocate.specs.Tables.{IsCellPlan, IsPriced, IsWalkPlanned};
 
-use crate::fits::{Fits, region_cost};
+use crate::fits::Fits;
+use crate::moving::moves_more;
 use crate::priced::{PricedWalk, serves};
 use budget::SIZES;
 use emit::glue;
@@ -45,37 +44,7 @@ pub(crate) fn cell(
 ) -> Result<Plan, NoMemory>
     requires closed { IsClosedCode program.now.code }
     requires live { IsLiveOf program.now.code live.now }
-    requires fits { AreFitsOf program.now.code from fits.now }
-    requires walk { IfSome walk (IsPriced program.now.code from) }
-    requires private { (n : ℕ) × IsPrivatePressure program.now.code n × (n ≤ p) }
-    requires total { (n : ℕ) × IsTotalPressure program.now.code n × (n ≤ from + j) }
-    requires within { j < SIZES }
-    requires order { p ≤ from + j }
-    requires few { from + j ≤ MOST_FILE }
-    ensures cell { IfOk result (IsCellPlan program.now.code p (from + j)) }
-    ensures valid { IfOk result (IsValidPlan program.now.code) }
-{
-    if fits.whole.fits(p, from + j) {
-        let code = program.code.as_slice();
-        return fit_plan(alloc, code, live, &fits.whole, p, from + j);
-    }
-    moved(alloc, program, live, fits, walk, from, j, p)
-}
-
-/// The same plan, where it is not known what the fits over the regions cost.
-pub(crate) fn unpriced_cell(
-    alloc: Global,
-    program: &Program,
-    live: &Live,
-    fits: &Fits,
-    walk: Option<PricedWalk>,
-    from: u32,
-    j: u32,
-    p: u32,
-) -> Result<Plan, NoMemory>
-    requires closed { IsClosedCode program.now.code }
-    requires live { IsLiveOf program.now.code live.now }
-    requires fits { AreMadeOf program.now.code fits.now }
+    requires fits { AreFitsOf program.now.code fits.now }
     requires walk { IfSome walk (IsPriced program.now.code from) }
     requires private { (n : ℕ) × IsPrivatePressure program.now.code n × (n ≤ p) }
     requires total { (n : ℕ) × IsTotalPressure program.now.code n × (n ≤ from + j) }
@@ -105,7 +74,7 @@ fn lesser(
 ) -> Result<Plan, NoMemory>
     requires closed { IsClosedCode program.now.code }
     requires live { IsLiveOf program.now.code live.now }
-    requires fits { AreMadeOf program.now.code fits.now }
+    requires fits { AreFitsOf program.now.code fits.now }
     requires order { p ≤ r }
     requires few { r ≤ MOST_FILE }
     requires out { IsWholeFit program.now.code p r None }
@@ -115,6 +84,9 @@ fn lesser(
 {
     let code = program.code.as_slice();
     let regions = fits.regions.as_slice();
+    if moves_more(code, live, &fits.division, regions, walked.cost) {
+        return Ok(walked.plan);
+    }
     match region_plan(alloc, code, live, &fits.division, regions, p, r)? {
         Some(plan) => lesser_of(alloc, program, plan, walked, p, r),
         None => Ok(walked.plan),
@@ -143,71 +115,6 @@ fn lesser_of(
         Ok(fitted)
     } else {
         Ok(walked.plan)
-    }
-}
-
-/// The same as a cell where the fit over the whole program runs out.
-fn moved(
-    alloc: Global,
-    program: &Program,
-    live: &Live,
-    fits: &Fits,
-    walk: Option<PricedWalk>,
-    from: u32,
-    j: u32,
-    p: u32,
-) -> Result<Plan, NoMemory>
-    requires closed { IsClosedCode program.now.code }
-    requires live { IsLiveOf program.now.code live.now }
-    requires fits { AreFitsOf program.now.code from fits.now }
-    requires walk { IfSome walk (IsPriced program.now.code from) }
-    requires private { (n : ℕ) × IsPrivatePressure program.now.code n × (n ≤ p) }
-    requires total { (n : ℕ) × IsTotalPressure program.now.code n × (n ≤ from + j) }
-    requires within { j < SIZES }
-    requires order { p ≤ from + j }
-    requires few { from + j ≤ MOST_FILE }
-    requires out { IsWholeFit program.now.code p (from + j) None }
-    ensures cell { IfOk result (IsCellPlan program.now.code p (from + j)) }
-    ensures valid { IfOk result (IsValidPlan program.now.code) }
-{
-    let walked = walked(alloc, program, live, walk, from, j, p)?;
-    match region_cost(fits.regions.as_slice(), fits.costs, from + j, j, p) {
-        Some(cost) => beside_walk(alloc, program, live, fits, walked, cost, p, from + j),
-        None => Ok(walked.plan),
-    }
-}
-
-/// The plan by the fit over each region, which costs so much, unless the walk costs less.
-fn beside_walk(
-    alloc: Global,
-    program: &Program,
-    live: &Live,
-    fits: &Fits,
-    walked: Planned,
-    cost: u32,
-    p: u32,
-    r: u32,
-) -> Result<Plan, NoMemory>
-    requires closed { IsClosedCode program.now.code }
-    requires live { IsLiveOf program.now.code live.now }
-    requires division { AreRegionsOf program.now.code fits.now.division }
-    requires parts { AreFits program.now.code fits.now.division fits.now.regions }
-    requires order { p ≤ r }
-    requires few { r ≤ MOST_FILE }
-    requires out { IsWholeFit program.now.code p r None }
-    requires region { IsRegionCost program.now.code p r (Some cost) }
-    requires walk { IsWalkPlanned program.now.code p r walked }
-    ensures cell { IfOk result (IsCellPlan program.now.code p r) }
-    ensures valid { IfOk result (IsValidPlan program.now.code) }
-{
-    if walked.cost < cost {
-        return Ok(walked.plan);
-    }
-    let code = program.code.as_slice();
-    let regions = fits.regions.as_slice();
-    match region_plan(alloc, code, live, &fits.division, regions, p, r)? {
-        Some(plan) => Ok(plan),
-        None => Ok(walked.plan),
     }
 }
 

@@ -3,11 +3,10 @@
 use crate::fits::Fits;
 use range_colour::Fit;
 
-/// The fits of a context: that over the whole program alone, where it serves every size; those over the
-/// regions too, with what they cost unless the walk costs nothing.
+/// The fits of a context: that over the whole program alone, where it serves every size, or those over
+/// the regions too.
 #[derive(Drop)]
 pub(crate) enum Kept {
     Free(Fit),
-    Walked(Fits),
-    Costly(Fits),
+    Fitted(Fits),
 }

@@ -14,7 +14,7 @@ ghost use Rattle.allocate.specs.Cells.{IsCellOf};
 ghost use Rattle.allocate.specs.Preferred.{demands_by};
 ghost use Rattle.allocate.specs.Tables.{AreChosen, AreKept, AreWalksKept, IsChosenAt, IsKept, IsWalkKept};
 
-use crate::cell::{cell, unpriced_cell};
+use crate::cell::cell;
 use crate::kept::Kept;
 use crate::priced::PricedWalk;
 use budget::SIZES;
@@ -120,8 +120,7 @@ fn plan_of(
             let code = program.code.as_slice();
             fit_plan(alloc, code, live, fit, p, part.all + j)
         }
-        Kept::Walked(fits) => { unpriced_cell(alloc, program, live, fits, walk, part.all, j, p) }
-        Kept::Costly(fits) => cell(alloc, program, live, fits, walk, part.all, j, p),
+        Kept::Fitted(fits) => cell(alloc, program, live, fits, walk, part.all, j, p),
     }
 }
 

@@ -6,14 +6,15 @@ ghost use Rattle.std.specs.List.{All, AllZip, sum_by};
 ghost use Rattle.flow_graph.specs.Paths.{IsClosedCode};
 ghost use Rattle.liveness.specs.Lives.{IsLiveOf};
 ghost use Rattle.pressure.specs.Pressures.{IsPart, IsPressureOf, need_of};
-ghost use Rattle.allocate.specs.Fits.{AreFitsOf, AreMadeOf};
+ghost use Rattle.allocate.specs.Fits.{AreFitsOf};
 ghost use Rattle.allocate.specs.Items.{AreClosed, IsItem};
 ghost use Rattle.allocate.specs.Needs.{AreLives, ArePressures};
 ghost use Rattle.allocate.specs.Tables.{AreKept, AreRows, AreWalksKept, IsKept, IsKeptBy, IsPriced, IsTabled, IsWalkKept};
 
-use crate::fits::{Fits, fits_of, priced_fits};
+use crate::fits::{Fits, fits_of};
 use crate::kept::Kept;
 use crate::priced::{PricedWalk, is_walk_free};
+use crate::region_costs::RegionCosts;
 use crate::row_costs::row_costs;
 use budget::{CostTable, SIZE_COUNT, SIZES};
 use liveness::Live;
@@ -211,7 +212,7 @@ fn walked_cells(
     requires ordered { part.private ≤ part.all }
     requires all { part.all ≤ most }
     requires most { most ≤ MOST_FILE }
-    requires fits { AreMadeOf program.now.code fits }
+    requires fits { AreFitsOf program.now.code fits }
     ensures cells { IfOk result (λ made. AreRows program.now.code part most SIZES made.cells) }
     ensures kept { IfOk result (λ made. IsKeptBy program.now.code part made.kept) }
     ensures walk { IfOk result (λ made. IfSome made.walk (IsPriced program.now.code part.all)) }
@@ -224,7 +225,7 @@ fn walked_cells(
     let cells = free_cells(alloc)?;
     Ok(Cells {
         cells,
-        kept: Kept::Walked(fits),
+        kept: Kept::Fitted(fits),
         walk,
     })
 }
@@ -245,18 +246,17 @@ fn costly_cells(
     requires ordered { part.private ≤ part.all }
     requires all { part.all ≤ MOST_FILE }
     requires most { most ≤ MOST_FILE }
-    requires fits { AreMadeOf program.now.code fits }
+    requires fits { AreFitsOf program.now.code fits }
     requires made { IfSome made (IsPriced program.now.code part.all) }
     ensures cells { IfOk result (λ made. AreRows program.now.code part most SIZES made.cells) }
     ensures kept { IfOk result (λ made. IsKeptBy program.now.code part made.kept) }
     ensures walk { IfOk result (λ made. IfSome made.walk (IsPriced program.now.code part.all)) }
 {
-    let fits = priced_fits(alloc, program, live, part.all, fits)?;
     let mut walk = made;
     let cells = rows_of(alloc, program, live, part, most, &fits, &mut walk)?;
     Ok(Cells {
         cells,
-        kept: Kept::Costly(fits),
+        kept: Kept::Fitted(fits),
         walk,
     })
 }
@@ -287,15 +287,16 @@ fn rows_of(
     requires ordered { part.private ≤ part.all }
     requires all { part.all ≤ MOST_FILE }
     requires most { most ≤ MOST_FILE }
-    requires fits { AreFitsOf program.now.code part.all fits.now }
+    requires fits { AreFitsOf program.now.code fits.now }
     requires walk { IfSome walk.old (IsPriced program.now.code part.all) }
     ensures rows { IfOk result (AreRows program.now.code part most SIZES) }
     ensures walk { IfSome walk.new (IsPriced program.now.code part.all) }
 {
     let mut cells = List::new(alloc);
+    let mut costs = RegionCosts::Unknown;
     for i in 0..SIZES {
         let p = part.private + i;
-        let row = row_costs(alloc, program, live, part, p, most, fits, walk)?;
+        let row = row_costs(alloc, program, live, part, p, most, fits, &mut costs, walk)?;
         push_row(&mut cells, &row)?;
     }
     Ok(cells)

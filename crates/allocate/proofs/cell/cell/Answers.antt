@@ -11,7 +11,7 @@ use Rattle.allocate.specs.Tables.{IsCellPlan}
 use Rattle.allocate.proofs.cell.cell.Goals as goal
 
 pub fit_plan-requires-clause-fit : goal.fit_plan-requires-clause-fit
-fit_plan-requires-clause-fit c = subst (λ (code : List Line). IsFit code Every c.args.fits.now.whole) (sym c.as_slice-code.ensures) c.requires.fits.made.fit
+fit_plan-requires-clause-fit c = subst (λ (code : List Line). IsFit code Every c.args.fits.now.whole) (sym c.as_slice-code.ensures) c.requires.fits.fit
 
 pub returns-then-fits-clause-cell : goal.returns-then-fits-clause-cell
 returns-then-fits-clause-cell c =
@@ -23,7 +23,7 @@ returns-then-fits-clause-cell c =
 pub returns-then-fits-clause-valid : goal.returns-then-fits-clause-valid
 returns-then-fits-clause-valid c = subst (λ (code : List Line). IfOk c.fit_plan.result (IsValidPlan code)) c.as_slice-code.ensures c.fit_plan.ensures.valid
 
-pub moved-requires-clause-out : goal.moved-requires-clause-out
-moved-requires-clause-out c =
+pub lesser-requires-clause-out : goal.lesser-requires-clause-out
+lesser-requires-clause-out c =
     let r = c.args.from + c.args.j in
     subst (TellsWhole c.args.program.now.code c.args.p r) (sym c.fits.ensures ∙ c.if-fits.false) (c.requires.fits.whole c.args.p r c.requires.order c.requires.few)

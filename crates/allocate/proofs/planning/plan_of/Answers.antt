@@ -17,7 +17,7 @@ fit_plan-requires-clause-fits c =
 
 pub cell-requires-clause-fits : goal.cell-requires-clause-fits
 cell-requires-clause-fits c =
-    subst (IsKeptBy c.args.program.now.code c.args.part) c.in-Costly.is (kept_as c.args.program.now.code c.args.part c.args.kept.now c.requires.part c.requires.kept)
+    subst (IsKeptBy c.args.program.now.code c.args.part) c.in-Fitted.is (kept_as c.args.program.now.code c.args.part c.args.kept.now c.requires.part c.requires.kept)
 
 pub cell-requires-clause-walk : goal.cell-requires-clause-walk
 cell-requires-clause-walk c = walk_kept_as c.args.program.now.code c.args.part c.args.walk c.requires.part c.requires.walk
@@ -31,21 +31,8 @@ returns-in-Free-clause-chosen c =
     (λ plan fit. chosen_cell code c.args.part c.args.size c.args.shared c.more.result c.more-j.result plan c.requires.part c.more.ensures.value c.more-j.ensures.value (0, inl (record { fit = fit; free = refl })))
     (subst (λ (l : List Line). IfOk c.fit_plan.result (λ plan. IsWholeFit l p r (Some plan))) c.as_slice-code.ensures c.fit_plan.ensures.fit)
 
-pub returns-in-Costly-clause-chosen : goal.returns-in-Costly-clause-chosen
-returns-in-Costly-clause-chosen c =
+pub returns-in-Fitted-clause-chosen : goal.returns-in-Fitted-clause-chosen
+returns-in-Fitted-clause-chosen c =
     let code = c.args.program.now.code in
     IfOk-weaker c.cell.result (IsCellPlan code (c.args.part.private + c.more.result) (c.args.part.all + c.more-j.result)) (λ plan. (cost : ℕ) × IsCellOf code c.args.size c.args.shared cost plan)
     (λ plan cell. chosen_cell code c.args.part c.args.size c.args.shared c.more.result c.more-j.result plan c.requires.part c.more.ensures.value c.more-j.ensures.value cell) c.cell.ensures.cell
-
-pub unpriced_cell-requires-clause-fits : goal.unpriced_cell-requires-clause-fits
-unpriced_cell-requires-clause-fits c =
-    subst (IsKeptBy c.args.program.now.code c.args.part) c.in-Walked.is (kept_as c.args.program.now.code c.args.part c.args.kept.now c.requires.part c.requires.kept)
-
-pub unpriced_cell-requires-clause-walk : goal.unpriced_cell-requires-clause-walk
-unpriced_cell-requires-clause-walk c = walk_kept_as c.args.program.now.code c.args.part c.args.walk c.requires.part c.requires.walk
-
-pub returns-in-Walked-clause-chosen : goal.returns-in-Walked-clause-chosen
-returns-in-Walked-clause-chosen c =
-    let code = c.args.program.now.code in
-    IfOk-weaker c.unpriced_cell.result (IsCellPlan code (c.args.part.private + c.more.result) (c.args.part.all + c.more-j.result)) (λ plan. (cost : ℕ) × IsCellOf code c.args.size c.args.shared cost plan)
-    (λ plan cell. chosen_cell code c.args.part c.args.size c.args.shared c.more.result c.more-j.result plan c.requires.part c.more.ensures.value c.more-j.ensures.value cell) c.unpriced_cell.ensures.cell
