@@ -1,5 +1,5 @@
 -- The tests of the code decide what is formed.
-use Rattle.std.proofs.Common.{◌≡◌, ◌≤◌, ℕ, suc, ◌+◌, ◌-◌, Bool, true, not, ◌&&◌, List, [], ◌∷◌, length, map, sum, Option, Some, None, refl, sym, ap, ◌∙◌, arith}
+use Rattle.std.proofs.Common.{◌≡◌, ◌≤◌, ℕ, suc, ◌+◌, ◌-◌, Bool, true, not, ◌&&◌, List, [], ◌∷◌, length, map, sum, Option, Some, None, refl, sym, ap, ◌∙◌, arith, rules}
 use Rattle.std.specs.Prelude.{nat_lt, nat_le, nat_eq, slice_get}
 use Rattle.std.specs.List.{list_any, list_all, filter_map}
 use Rattle.std.specs.Bool.{Decides}
@@ -73,33 +73,23 @@ targets_below places labels =
 sizes : (p : Program) → Decides (size_test p) ((1 ≤ length p.code) × (length p.code ≤ MOST_INSTRUCTIONS) × (length p.registers ≤ MOST_REGISTERS))
 sizes p =
     let all = Decides-and _ _ (Decides-and _ _ (at_most 1 (length p.code)) (at_most (length p.code) MOST_INSTRUCTIONS)) (at_most (length p.registers) MOST_REGISTERS) in
-    (λ h. ((all.0 h).0.0, (all.0 h).0.1, (all.0 h).1), λ f. all.1 ((f.0, f.1), f.2))
+    (λ h. let f = all.0 h in search rules, λ f. all.1 (search rules))
 
 pub Decides-program : (p : Program) → Decides (program_test p) (IsFormedProgram p)
 Decides-program p =
     let registers = Decides-and _ _ (Decides-and _ _ (each_passes (λ (l : Line). names_below (λ r. r.0) (length p.registers) (length p.code) l.instr) p.code) (Decides-numbered (named_by p.code) (length p.registers))) (passes (is_distinct bytes_eq p.registers)) in
     let labels = Decides-and _ _ (Decides-and _ _ (Decides-and _ _ (has_names (λ (l : Label). l.name) p.labels) (targets_below (length p.code) p.labels)) (passes (never_drops 0 (map (λ l. l.target) p.labels)))) (each_passes (λ (l : Line). is_labelled p.labels (target_of l.instr)) p.code) in
     let lines = Decides-and _ _ (passes (always_rises 1 (map (λ l. l.line) p.code))) (passes (last_never_falls (option_map (λ l. l.instr) (slice_get p.code (length p.code - 1))))) in
-    let all = Decides-and _ _ (Decides-and _ _ (Decides-and _ _ (sizes p) registers) labels) lines in (
+    let all = Decides-and _ _ (Decides-and _ _ (Decides-and _ _ (sizes p) registers) labels) lines in
+    let last = slice_get p.code (length p.code - 1) in (
       λ h.
           let f = all.0 h in
-          record {
-            some = f.0.0.0.0;
-            few = f.0.0.0.1;
-            registers = f.0.0.0.2;
-            named = f.0.0.1.0.0;
-            numbered = f.0.0.1.0.1;
-            distinct = f.0.0.1.1;
-            labelled = f.0.1.1;
-            label_names = f.0.1.0.0.0;
-            label_targets = f.0.1.0.0.1;
-            label_order = f.0.1.0.1;
-            lines = f.1.0;
-            ends = last_is (λ (l : Line). l.instr) (slice_get p.code (length p.code - 1)) f.1.1;
-          },
+          let ends = last_is (λ (l : Line). l.instr) last f.1.1 in
+          search rules,
       λ f.
-          let last = has_last p.code f.some in
-          all.1 ((((f.some, f.few, f.registers), ((f.named, f.numbered), f.distinct)), (((f.label_names, f.label_targets), f.label_order), f.labelled)), (f.lines, last_was (λ (l : Line). l.instr) (slice_get p.code (length p.code - 1)) last.0 last.1 f.ends)),
+          let there = has_last p.code f.some in
+          let stops = last_was (λ (l : Line). l.instr) last there.0 there.1 f.ends in
+          all.1 (search rules),
     )
 
 -- settings
@@ -108,12 +98,8 @@ pub Decides-setting : (s : Setting) → Decides (setting_test s) (IsFormedSettin
 Decides-setting s =
     let sizes = Decides-and _ _ (Decides-and _ _ (at_most s.memory MOST_MEMORY) (at_most (length s.channels) MOST_CHANNELS)) (at_most (sum (map initial_count s.channels)) MOST_INITIAL_WORDS) in
     let channels = Decides-and _ _ (Decides-and _ _ (passes (list_all has_formed_ring s.channels)) (passes (all_below MOST_PORTS (filter_map port_of s.channels)))) (passes (is_distinct nat_eq (filter_map port_of s.channels))) in
-    let all = Decides-and _ _ sizes channels in (
-      λ h.
-          let f = all.0 h in
-          record { memory = f.0.0.0; few = f.0.0.1; rings = f.1.0.0; ports = f.1.0.1; distinct = f.1.1; words = f.0.1 },
-      λ f. all.1 (((f.memory, f.few), f.words), ((f.rings, f.ports), f.distinct)),
-    )
+    let all = Decides-and _ _ sizes channels in
+    (λ h. let f = all.0 h in search rules, λ f. all.1 (search rules))
 
 -- bundles
 
@@ -124,23 +110,8 @@ Decides-bundle b =
     let programs = Decides-each program_test IsFormedProgram Decides-program b.programs in
     let fits = λ (p : Program). list_all (λ (l : Line). fits_channels b.setting.channels l.instr) p.code in
     let channels = Decides-each fits (λ (p : Program). Each p.code (λ (l : Line). fits_channels b.setting.channels l.instr ≡ true)) (λ p. each_passes (λ (l : Line). fits_channels b.setting.channels l.instr) p.code) b.programs in
-    let all = Decides-and _ _ (Decides-and _ _ (Decides-and _ _ sizes names) (Decides-setting b.setting)) (Decides-and _ _ programs channels) in (
-      λ h.
-          let f = all.0 h in
-          record {
-            file = f.0.0.0.0.0.0;
-            small = f.0.0.0.0.0.1;
-            setting = f.0.1;
-            some = f.0.0.0.0.1;
-            few = f.0.0.0.1;
-            programs = f.1.0;
-            names = f.0.0.1.0.0;
-            distinct = f.0.0.1.0.1;
-            contexts = f.0.0.1.1;
-            channels = f.1.1;
-          },
-      λ f. all.1 ((((((f.file, f.small), f.some), f.few), ((f.names, f.distinct), f.contexts)), f.setting), (f.programs, f.channels)),
-    )
+    let all = Decides-and _ _ (Decides-and _ _ (Decides-and _ _ sizes names) (Decides-setting b.setting)) (Decides-and _ _ programs channels) in
+    (λ h. let f = all.0 h in search rules, λ f. all.1 (search rules))
 
 -- images
 
@@ -152,10 +123,8 @@ record Worded (m : Image) (code : Code) (w : Word) : Type 0 where
 
 decides_word : (m : Image) (code : Code) (w : Word) → Decides (word_test m code w) (Worded m code w)
 decides_word m code w =
-    let all = Decides-and _ _ (Decides-and _ _ (Decides-and _ _ (passes (names_below (λ r. r.0) m.file (length code.words) w.instr)) (passes (writes_within code.private m.shared (written_by w.instr)))) (passes (glue_fits code.words w))) (passes (fits_channels m.setting.channels w.instr)) in (
-      λ h. let f = all.0 h in record { named = f.0.0.0; written = f.0.0.1; glue = f.0.1; channels = f.1 },
-      λ f. all.1 (((f.named, f.written), f.glue), f.channels),
-    )
+    let all = Decides-and _ _ (Decides-and _ _ (Decides-and _ _ (passes (names_below (λ r. r.0) m.file (length code.words) w.instr)) (passes (writes_within code.private m.shared (written_by w.instr)))) (passes (glue_fits code.words w))) (passes (fits_channels m.setting.channels w.instr)) in
+    (λ h. let f = all.0 h in search rules, λ f. all.1 (search rules))
 
 decides_code : (m : Image) (code : Code) → Decides (code_test m code) (IsFormedCode m code)
 decides_code m code =
@@ -198,20 +167,14 @@ Decides-image m =
     let sizes = Decides-and _ _ (Decides-and _ _ (Decides-and _ _ (at_most 1 m.file) (at_most m.file MOST_FILE)) (at_most 1 (length m.contexts))) (at_most (length m.contexts) MOST_CONTEXTS) in
     let ranges = Decides-and _ _ (Decides-and _ _ (at_most (m.shared.start + m.shared.size) m.file) (apart_from m.shared m.contexts)) (apart m.contexts) in
     let contexts = Decides-each (code_test m) (IsFormedCode m) (decides_code m) m.contexts in
-    let all = Decides-and _ _ (Decides-and _ _ (Decides-and _ _ sizes ranges) (Decides-setting m.setting)) contexts in (
+    let all = Decides-and _ _ (Decides-and _ _ (Decides-and _ _ sizes ranges) (Decides-setting m.setting)) contexts in
+    let shared = list_all (are_apart m.shared) (map (λ code. code.private) m.contexts) in
+    let own = all_apart (map (λ code. code.private) m.contexts) in (
       λ h.
           let f = all.0 h in
-          record {
-            file = f.0.0.0.0.0.0;
-            small = f.0.0.0.0.0.1;
-            setting = f.0.1;
-            some = f.0.0.0.0.1;
-            few = f.0.0.0.1;
-            shared = f.0.0.1.0.0;
-            apart = and_from (list_all (are_apart m.shared) (map (λ code. code.private) m.contexts)) (all_apart (map (λ code. code.private) m.contexts)) f.0.0.1.0.1 f.0.0.1.1;
-            contexts = f.1;
-          },
+          let apart = and_from shared own f.0.0.1.0.1 f.0.0.1.1 in
+          search rules,
       λ f.
-          let parts = and_parts (list_all (are_apart m.shared) (map (λ code. code.private) m.contexts)) (all_apart (map (λ code. code.private) m.contexts)) f.apart in
-          all.1 ((((((f.file, f.small), f.some), f.few), ((f.shared, parts.0), parts.1)), f.setting), f.contexts),
+          let parts = and_parts shared own f.apart in
+          all.1 (search rules),
     )
