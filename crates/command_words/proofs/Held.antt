@@ -2,7 +2,8 @@
 use Rattle.std.proofs.Common.{◌≡◌, Bool, true, false, List, [], ◌∷◌, Option, Some, None, is_some, refl, sym, ap, ◌∙◌}
 use Rattle.clap.specs.Walk.{Row, Held, nothing_held, used, has_row, first_of}
 use Rattle.clap.specs.Takes.{settle_passes, use_passes}
-use Rattle.clap.specs.Faults.{settle_fault}
+use Rattle.clap.specs.Faults.{settle_fault, react_fault}
+use Rattle.clap.specs.Kinds.{or_else}
 use Rattle.command_words.specs.Texts.{Text, OptionName, steps, order, Parts}
 use Rattle.command_words.proofs.Slots.{rules, Slot, first, second, valued, id_of, option_built, rule_at, part, put, rows_of, with_pending, with_used, used_once, pending_rows, pending_passes, pending_faults, is_same, either, put_part, first_with, has_with}
 
@@ -65,3 +66,7 @@ stands_used h p n v s none = record {
 pub use_once : (n : OptionName) (v : Text) (rows : List Row) → has_row (id_of (valued n)) rows ≡ false → use_passes false (option_built n) (v ∷ []) rows ≡ true
 use_once steps v rows gone = rw gone refl
 use_once order v rows gone = rw gone refl
+
+pub no_fault_once : (n : OptionName) (h : Held) (v : Text) → settle_fault rules false h ≡ [] → has_row (id_of (valued n)) (rows_of h) ≡ false → or_else (react_fault rules false (option_built n) (v ∷ []) h) [] ≡ []
+no_fault_once steps h v none gone = rw (none, gone) refl
+no_fault_once order h v none gone = rw (none, gone) refl

@@ -1,5 +1,5 @@
 -- The walk of the command over all words gives just the parts that the words have.
-use Rattle.std.proofs.Common.{◌≡◌, ℕ, ◌++◌, ◌⊎◌, inl, inr, Bool, true, false, List, [], ◌∷◌, map, Option, Some, None, if◌then◌else◌, refl, sym, ◌∙◌, subst, fold}
+use Rattle.std.proofs.Common.{◌≡◌, ℕ, ◌++◌, ◌⊎◌, inl, inr, Bool, true, false, List, [], ◌∷◌, map, Option, Some, None, if◌then◌else◌, refl, sym, ap, ◌∙◌, subst, fold}
 use Rattle.std.proofs.lemmas.Bool.{true≢false, and_parts}
 use Rattle.std.specs.List.{list_all}
 use Rattle.std.specs.Str.{bytes_eq}
@@ -10,10 +10,10 @@ use Rattle.clap.specs.Faults.{walk_fault, turn_fault, settle_fault}
 use Rattle.clap.specs.Kinds.{or_else}
 use Rattle.command_words.specs.Texts.{Text, OptionName, steps, order, Word, plain, names, sets, stray, Texts, Parts, begins_with_hyphen, hyphened, sets_one_of, after, word_of, texts_of}
 use Rattle.command_words.specs.Hyphens.{is_fit}
-use Rattle.command_words.proofs.Slots.{shape, rules, Slot, first, second, valued, id_of, part, rows_of, with_pending, with_used}
+use Rattle.command_words.proofs.Slots.{shape, rules, Slot, first, second, valued, id_of, part, put, rows_of, with_pending, with_used}
 use Rattle.command_words.specs.Spellings.{spelt, attached}
 use Rattle.command_words.proofs.WordSteps.{at, waits, Reads, reads, Fails, fails_left, hyphens_shape, walked_first, walked_second, passes_first, passes_second, fault_first, fault_second, fault_third, walked_name, passes_name, fault_name, walked_value, passes_value, fault_value, walked_attached, passes_attached, fault_attached, twice_pending, twice_attached, waits_bad, fault_hyphens, fault_plain}
-use Rattle.command_words.proofs.Held.{Stands, stands_pending, stands_used, use_once, is_free}
+use Rattle.command_words.proofs.Held.{Stands, stands_pending, stands_used, use_once, no_fault_once, is_free}
 use Rattle.command_words.proofs.States.{Plains, nothing, one, two, State, parts, position, plain_next, value_next, parts_with, reading, on, plain_reading, value_reading, all_read}
 
 pub record Good (w : Walk) (ws : List Text) (p : Parts) : Type 0 where
@@ -71,22 +71,20 @@ plain_leads h (one v) s o w r e = record {
 }
 plain_leads h (two v u) s o w r e = fault_third h w e
 
+-- a value that is attached to an option which was not given yet
+attached_next : (n : OptionName) (h : Held) (q next : State) (v : Text) → Stands h (parts q) → part (parts q) (valued n) ≡ None → put (valued n) v (parts q) ≡ parts next → position q.plains ≡ position next.plains → Next (at h (position q.plains)) (attached n ++ v) next
+attached_next n h q next v r free given same = record {
+  held = with_used h n v;
+  stands = subst (Stands (with_used h n v)) given (stands_used h (parts q) n v r free);
+  walks = walked_attached n h (position q.plains) v ∙ ap (at (with_used h n v)) same;
+  passes = passes_attached n h (position q.plains) v ∙ rw (r.passes, use_once n v (rows_of h) (is_free h _ (valued n) r free)) refl;
+  faults = fault_attached n h (position q.plains) v ∙ no_fault_once n h v r.faults (is_free h _ (valued n) r free);
+}
+
 attached_leads : (n : OptionName) (h : Held) (p : Plains) (s o : Option Text) (v : Text) → Stands h (parts (state p s o)) → Leads (at h (position p)) (attached n ++ v) (value_next n (state p s o) v)
-attached_leads steps h p None o v r = record {
-  held = with_used h steps v;
-  stands = stands_used h (parts (state p None o)) steps v r refl;
-  walks = walked_attached steps h (position p) v;
-  passes = passes_attached steps h (position p) v ∙ rw (r.passes, use_once steps v (rows_of h) (is_free h _ (valued steps) r refl)) refl;
-  faults = fault_attached steps h (position p) v ∙ rw (r.faults, is_free h _ (valued steps) r refl) refl;
-}
+attached_leads steps h p None o v r = attached_next steps h (state p None o) (state p (Some v) o) v r refl refl refl
 attached_leads steps h p (Some u) o v r = twice_attached steps h (position p) v (r.given (valued steps)) r.faults
-attached_leads order h p s None v r = record {
-  held = with_used h order v;
-  stands = stands_used h (parts (state p s None)) order v r refl;
-  walks = walked_attached order h (position p) v;
-  passes = passes_attached order h (position p) v ∙ rw (r.passes, use_once order v (rows_of h) (is_free h _ (valued order) r refl)) refl;
-  faults = fault_attached order h (position p) v ∙ rw (r.faults, is_free h _ (valued order) r refl) refl;
-}
+attached_leads order h p s None v r = attached_next order h (state p s None) (state p s (Some v)) v r refl refl refl
 attached_leads order h p s (Some u) v r = twice_attached order h (position p) v (r.given (valued order)) r.faults
 
 -- ---- what the words that follow come to
