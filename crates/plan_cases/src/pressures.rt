@@ -5,7 +5,7 @@ ghost use Rattle.flow_graph.specs.Paths.{IsClosedCode};
 use crate::bundles::{SPLIT, bundle_of, context_of};
 use flow_graph::Flow;
 use liveness::Live;
-use micro_isa::{List, Next, Program};
+use micro_isa::{List, Program};
 use pressure::{Pressure, Regions, boundaries, need, pressures};
 use report_check::print_check;
 use std::alloc::Global;
@@ -33,34 +33,35 @@ const UNREACHABLE: &[u8] = b"file 1\ncontext a\njmp end\nli x, 1\nend: halt\n";
 const FORWARDER: &[u8] =
     b"file 25\nmemory 64\ninput in\noutput out\ncontext a\nli left, 16\nli one, 1\nli mask, 63\nnext: recv word, in\nand place, word, mask\nload seen, place\nadd seen, seen, one\nstore place, seen\nshl word, word, one\nsend out, word\nsub left, left, one\nbne left, zero, next\nhalt\n";
 
-/// The pressures of a text's first context, and its number of regions.
-fn pressure_in(alloc: Global, text: &[u8]) -> Result<(Pressure, u32), Fail> {
+/// The pressures of a text's first context, private and in all, and its number of regions.
+fn pressures_in(alloc: Global, text: &[u8]) -> Result<(u32, u32, u32), Fail> {
     let bundle = bundle_of(alloc, text)?;
-    pressure_of(alloc, context_of(&bundle, 0)?)
+    pressures_of(alloc, context_of(&bundle, 0)?)
 }
 
-fn pressure_of(alloc: Global, program: &Program) -> Result<(Pressure, u32), Fail>
+fn pressures_of(alloc: Global, program: &Program) -> Result<(u32, u32, u32), Fail>
     requires { IsClosedCode program.now.code }
 {
     let flow = Flow::of(alloc, program)?;
     let live = Live::of(alloc, program, &flow)?;
     let regions = Regions::of(alloc, program, &flow)?;
-    Ok((pressures(program, &live), regions.count()))
+    let found = pressures(program, &live);
+    Ok((found.private, found.all, regions.count()))
 }
+
+const KNOWN_PRESSURES: [(&[u8], (u32, u32, u32)); 6] = [
+    (FULL, (0, 2, 2)),
+    (SHARED, (1, 2, 3)),
+    (SPLIT, (1, 2, 4)),
+    (RELAY, (0, 1, 3)),
+    (UNREACHABLE, (0, 1, 1)),
+    (FORWARDER, (6, 7, 4)),
+];
 
 #[test]
 fn pressures_of_known_programs(rt: HostRuntime) -> Result<(), Fail> {
-    let rows = [
-        (FULL, 0, 2, 2),
-        (SHARED, 1, 2, 3),
-        (SPLIT, 1, 2, 4),
-        (RELAY, 0, 1, 3),
-        (UNREACHABLE, 0, 1, 1),
-        (FORWARDER, 6, 7, 4),
-    ];
-    for (text, private, all, regions) in &rows {
-        let (found, count) = pressure_in(rt.alloc(), text)?;
-        assert!(rt; (found.private, found.all, count) == (*private, *all, *regions));
+    for (text, wanted) in &KNOWN_PRESSURES {
+        assert!(rt; pressures_in(rt.alloc(), text)? == *wanted);
     }
     Ok(())
 }
@@ -86,14 +87,15 @@ fn regions_in(alloc: Global, text: &[u8]) -> Result<List<u32>, Fail> {
     Ok(numbers)
 }
 
+const KNOWN_REGIONS: [(&[u8], &[u32]); 3] = [
+    (BACKWARDS, &[0, 0, 0, 0, 0]),
+    (SCRAMBLED, &[0, 1, 1, 2, 0, 0]),
+    (SHARED, &[0, 0, 1, 1, 1, 2]),
+];
+
 #[test]
 fn regions_by_jumps(rt: HostRuntime) -> Result<(), Fail> {
-    let rows = [
-        (BACKWARDS, [0, 0, 0, 0, 0].as_slice()),
-        (SCRAMBLED, [0, 1, 1, 2, 0, 0].as_slice()),
-        (SHARED, [0, 0, 1, 1, 1, 2].as_slice()),
-    ];
-    for (text, wanted) in &rows {
+    for (text, wanted) in &KNOWN_REGIONS {
         let numbers = regions_in(rt.alloc(), text)?;
         assert!(rt; numbers.as_slice() == *wanted);
     }
@@ -120,27 +122,32 @@ fn live_registers_of_known_programs(rt: HostRuntime) -> Result<(), Fail> {
     Ok(())
 }
 
-/// Where instruction `at` of a text's first context leads, and whether it is reached.
-fn flow_at(alloc: Global, text: &[u8], at: u32) -> Result<(Next, bool), Fail> {
+/// Where an instruction falls through to, where it jumps to, and whether it is reached.
+type Flows = (Option<u32>, Option<u32>, bool);
+
+/// The flow of instruction `at` of a text's first context.
+fn flow_at(alloc: Global, text: &[u8], at: u32) -> Result<Flows, Fail> {
     let bundle = bundle_of(alloc, text)?;
     let program = context_of(&bundle, 0)?;
     if program.code.len() <= at as usize {
         return Err("an instruction of this number".into());
     }
     let flow = Flow::of(alloc, program)?;
-    Ok((flow.successors_of(at), flow.reachable(at)))
+    let next = flow.successors_of(at);
+    Ok((next.fall, next.jump, flow.reachable(at)))
 }
+
+/// Instructions of texts, and where they lead.
+const KNOWN_SUCCESSORS: [(&[u8], u32, Flows); 3] = [
+    (SPLIT, 3, (Some(4), Some(4), true)),
+    (UNREACHABLE, 1, (Some(2), None, false)),
+    (FORWARDER, 11, (Some(12), Some(3), true)),
+];
 
 #[test]
 fn successors_of_known_programs(rt: HostRuntime) -> Result<(), Fail> {
-    let rows = [
-        (SPLIT, 3, Some(4), Some(4), true),
-        (UNREACHABLE, 1, Some(2), None, false),
-        (FORWARDER, 11, Some(12), Some(3), true),
-    ];
-    for (text, at, fall, jump, reached) in &rows {
-        let (next, is_reached) = flow_at(rt.alloc(), text, *at)?;
-        assert!(rt; (next.fall, next.jump, is_reached) == (*fall, *jump, *reached));
+    for (text, at, wanted) in &KNOWN_SUCCESSORS {
+        assert!(rt; flow_at(rt.alloc(), text, *at)? == *wanted);
     }
     Ok(())
 }
@@ -174,27 +181,27 @@ fn needs_of_known_bundles(rt: HostRuntime) {
     assert!(rt; need(&[forwarder, forwarder, forwarder, forwarder]) == 25);
 }
 
-/// The text of `check` for the bundle of a text.
-fn checked(alloc: Global, text: &[u8]) -> Result<Vec<u8>, Fail> {
+/// Texts, each with what `check` writes for it.
+const CHECKED: [(&[u8], &[u8]); 2] = [
+    (
+        SHARED,
+        b"context 0 private 1 all 2 regions 3\ncontext 1 private 1 all 2 regions 3\nneed 3 file 3\n",
+    ),
+    (
+        LOST,
+        b"context 0 private 0 all 1 regions 2\nunreachable 0 4\nunreachable 0 5\ncontext 1 private 0 all 0 regions 2\nunreachable 1 9\nunreachable 1 10\nneed 1 file 1\n",
+    ),
+];
+
+fn checks_so(alloc: Global, text: &[u8], wanted: &[u8]) -> Result<bool, Fail> {
     let bundle = bundle_of(alloc, text)?;
-    Ok(print_check(alloc, &bundle)?)
+    Ok(print_check(alloc, &bundle)?.as_slice() == wanted)
 }
 
 #[test]
 fn texts_of_known_bundles(rt: HostRuntime) -> Result<(), Fail> {
-    let rows = [
-        (
-            SHARED,
-            b"context 0 private 1 all 2 regions 3\ncontext 1 private 1 all 2 regions 3\nneed 3 file 3\n".as_slice(),
-        ),
-        (
-            LOST,
-            b"context 0 private 0 all 1 regions 2\nunreachable 0 4\nunreachable 0 5\ncontext 1 private 0 all 0 regions 2\nunreachable 1 9\nunreachable 1 10\nneed 1 file 1\n",
-        ),
-    ];
-    for (text, wanted) in &rows {
-        let told = checked(rt.alloc(), text)?;
-        assert!(rt; told.as_slice() == *wanted);
+    for (text, wanted) in &CHECKED {
+        assert!(rt; checks_so(rt.alloc(), text, wanted)?);
     }
     Ok(())
 }

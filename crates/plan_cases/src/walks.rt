@@ -1,6 +1,9 @@
+ghost use Rattle.std.specs.Prelude.{IfOk};
 ghost use Rattle.flow_graph.specs.Paths.{IsClosedCode};
+ghost use Rattle.plan.specs.ValidPlans.{IsValidPlan};
 
 use crate::bundles::{SPLIT, bundle_of, context_of};
+use crate::rows::shown;
 use flow_graph::Flow;
 use liveness::Live;
 use micro_isa::{MOST_FILE, Program};
@@ -39,8 +42,9 @@ const WAITING: &[u8] =
     b"file 4\ninner requests 1\ninner replies 1\ncontext client\n  recv word, replies\n  send requests, word\n  halt\ncontext server\n  recv word, requests\n  send replies, word\n  halt\n";
 
 /// The walk of a program at sizes so much above its pressures; `check_plan` must accept it.
-fn walk_of(alloc: Global, program: &Program, more: (u8, u8)) -> Result<Plan, Fail>
+pub(crate) fn walk_of(alloc: Global, program: &Program, more: (u8, u8)) -> Result<Plan, Fail>
     requires { IsClosedCode program.now.code }
+    ensures { IfOk result (IsValidPlan program.now.code) }
 {
     let flow = Flow::of(alloc, program)?;
     let live = Live::of(alloc, program, &flow)?;
@@ -63,54 +67,49 @@ fn walk_in(alloc: Global, text: &[u8], c: usize, more: (u8, u8)) -> Result<Plan,
     walk_of(alloc, context_of(&bundle, c)?, more)
 }
 
-/// The rows of a plan: `register@place` for each entry, `>place` for a write, a `;` behind each row.
-fn shown(alloc: Global, plan: &Plan) -> Result<String, Fail> {
-    let mut text = String::new(alloc);
-    for row in plan.rows.as_slice() {
-        for entry in row.places.as_slice() {
-            text.push_str(format!(in alloc; "{}@{} ", entry.register.0, entry.place)?.as_str())?;
-        }
-        if let Some(place) = row.write {
-            text.push_str(format!(in alloc; ">{}", place)?.as_str())?;
-        }
-        text.push(';')?;
-    }
-    Ok(text)
+/// A text, how much above its pressures the sizes are, and the walk's rows.
+type Case = (&'static [u8], (u8, u8), &'static str);
+
+const CASES: [Case; 5] = [
+    (SPLIT, (0, 0), ">0;0@0 ;0@0 >1;0@0 1@1 ;1@0 ;1@0 ;;"),
+    (SPLIT, (1, 1), ">0;0@0 ;0@0 >1;0@0 1@1 ;1@1 ;1@1 ;;"),
+    (SPLIT, (0, 1), ">0;0@0 ;0@0 >1;0@0 1@1 ;1@0 ;1@0 ;;"),
+    (UNREACHABLE, (0, 0), ">0;0@0 ;0@0 >1;0@0 ;;"),
+    (LOOP, (0, 0), "0@0 1@1 >0;0@0 1@1 ;0@0 1@1 ;"),
+];
+
+fn walks_so(alloc: Global, case: &Case) -> Result<bool, Fail> {
+    let (text, more, want) = *case;
+    let plan = walk_in(alloc, text, 0, more)?;
+    Ok(shown(alloc, &plan)?.as_str() == want)
 }
 
 #[test]
 fn walks_of_known_programs(rt: HostRuntime) -> Result<(), Fail> {
-    let rows = [
-        (SPLIT, (0, 0), ">0;0@0 ;0@0 >1;0@0 1@1 ;1@0 ;1@0 ;;"),
-        (SPLIT, (1, 1), ">0;0@0 ;0@0 >1;0@0 1@1 ;1@1 ;1@1 ;;"),
-        (SPLIT, (0, 1), ">0;0@0 ;0@0 >1;0@0 1@1 ;1@0 ;1@0 ;;"),
-        (UNREACHABLE, (0, 0), ">0;0@0 ;0@0 >1;0@0 ;;"),
-        (LOOP, (0, 0), "0@0 1@1 >0;0@0 1@1 ;0@0 1@1 ;"),
-    ];
-    for (text, more, want) in &rows {
-        let plan = walk_in(rt.alloc(), text, 0, *more)?;
-        let told = shown(rt.alloc(), &plan)?;
-        assert!(rt; told.as_str() == *want);
+    for case in &CASES {
+        assert!(rt; walks_so(rt.alloc(), case)?);
     }
     Ok(())
 }
 
+/// Contexts of examples, and the number of their instructions.
+const EXAMPLES: [(&[u8], usize, usize); 11] = [
+    (MEAN, 0, 4),
+    (MEAN, 1, 3),
+    (FRAME, 0, 7),
+    (HANDOFF, 0, 7),
+    (HANDOFF, 1, 11),
+    (KEY, 0, 4),
+    (KEY, 1, 5),
+    (LOOSE, 0, 4),
+    (PORTS, 0, 8),
+    (WAITING, 0, 3),
+    (WAITING, 1, 3),
+];
+
 #[test]
 fn examples_have_valid_walks(rt: HostRuntime) -> Result<(), Fail> {
-    let rows = [
-        (MEAN, 0, 4),
-        (MEAN, 1, 3),
-        (FRAME, 0, 7),
-        (HANDOFF, 0, 7),
-        (HANDOFF, 1, 11),
-        (KEY, 0, 4),
-        (KEY, 1, 5),
-        (LOOSE, 0, 4),
-        (PORTS, 0, 8),
-        (WAITING, 0, 3),
-        (WAITING, 1, 3),
-    ];
-    for (text, c, length) in &rows {
+    for (text, c, length) in &EXAMPLES {
         let plan = walk_in(rt.alloc(), text, *c, (0, 0))?;
         assert!(rt; plan.rows.len() == *length);
     }

@@ -3,18 +3,14 @@
 ghost use Rattle.std.specs.Prelude.{◌≡◌, Some, IfOk, slice_get};
 ghost use Rattle.micro_isa.specs.declared.program.Program.{Program as ProgramModel};
 ghost use Rattle.micro_isa.specs.Formed.{IsFormedBundle};
-ghost use Rattle.flow_graph.specs.Paths.{IsClosedCode};
 ghost use Rattle.plan.specs.ValidPlans.{IsValidPlan};
 
 use crate::bundles::{SPLIT, bundle_of, context_of};
+use crate::walks::walk_of;
 use budget::Budget;
 use emit::emit;
-use flow_graph::Flow;
-use liveness::Live;
-use micro_isa::{Bundle, Code, Image, Instr, List, MOST_FILE, PReg, Program, Range, Test, Word};
+use micro_isa::{Bundle, Code, Image, Instr, List, PReg, Range, Test, Word};
 use plan::Plan;
-use point_walk::walk;
-use pressure::pressures;
 use std::alloc::Global;
 use std::test::Fail;
 
@@ -62,26 +58,12 @@ const WORDS: [(Instr<PReg>, bool, u32); 10] = [
     (Instr::Jmp { target: 5 }, false, 0),
 ];
 
-/// The walk of a program at its pressures.
-fn walk_of(alloc: Global, program: &Program) -> Result<Plan, Fail>
-    requires { IsClosedCode program.now.code }
-    ensures { IfOk result (IsValidPlan program.now.code) }
-{
-    let flow = Flow::of(alloc, program)?;
-    let live = Live::of(alloc, program, &flow)?;
-    let least = pressures(program, &live);
-    if least.all < least.private || MOST_FILE < least.all {
-        return Err("sizes that a plan can have".into());
-    }
-    Ok(walk(alloc, program, &live, least.private, least.all)?)
-}
-
-/// The walk of the first context.
+/// The walk of the first context at its pressures.
 fn first_walk(alloc: Global, bundle: &Bundle) -> Result<Plan, Fail>
     requires { IsFormedBundle bundle.now }
     ensures { IfOk result (λ plan. (p : ProgramModel) → slice_get bundle.now.programs 0 ≡ Some p → IsValidPlan p.code plan) }
 {
-    walk_of(alloc, context_of(bundle, 0)?)
+    walk_of(alloc, context_of(bundle, 0)?, (0, 0))
 }
 
 /// The image of a bundle of one context for this plan, with one register of its own and one that is

@@ -1,6 +1,6 @@
 use Rattle.std.proofs.Common.{ℕ, ◌+◌, ◌*◌, ◌<◌, ◌≤◌, slice_index}
 use Rattle.budget.specs.declared.TheConstants.{SIZES, MOST_COST}
-use Rattle.fit_cases.proofs.budgets.is_small_row.Given as goal
+use Rattle.plan_cases.proofs.budgets.is_small_row.Given as goal
 
 abbrev pub invariant-loop-j : goal.invariant-loop-j
 invariant-loop-j l =

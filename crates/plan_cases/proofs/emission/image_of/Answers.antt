@@ -1,7 +1,7 @@
 use Rattle.std.proofs.Common.{◌≡◌, ℕ, List, [], ◌∷◌, ◌++◌, length, sym, ap, ◌∙◌, subst}
 use Rattle.emitted.specs.Emitted.{ArePlans, PlansFit}
-use Rattle.fit_cases.proofs.Emitting.{one_plan, one_room}
-use Rattle.fit_cases.proofs.emission.image_of.Goals as goal
+use Rattle.plan_cases.proofs.Emitting.{one_plan, one_room}
+use Rattle.plan_cases.proofs.emission.image_of.Goals as goal
 
 pub emit-requires-clause-plans : goal.emit-requires-clause-plans
 emit-requires-clause-plans c =

@@ -1,7 +1,7 @@
 use Rattle.std.proofs.Common.{below_more, arith}
 use Rattle.std.proofs.lemmas.List.Elements.{at_read}
 use Rattle.budget.specs.Costs.{IsCostTable}
-use Rattle.fit_cases.proofs.budgets.are_tables.Goals as goal
+use Rattle.plan_cases.proofs.budgets.are_tables.Goals as goal
 
 pub loop-table-preserved : goal.loop-table-preserved
 loop-table-preserved c =

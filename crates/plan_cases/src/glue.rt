@@ -5,12 +5,13 @@
 ghost use Rattle.flow_graph.specs.Paths.{IsClosedCode};
 
 use crate::bundles::{SPLIT, bundle_of, context_of};
+use crate::rows::{Row, WALKED, plan_of};
 use budget::SIZE_COUNT;
 use emit::{glue, glues};
 use flow_graph::Flow;
 use liveness::Live;
-use micro_isa::{List, MOST_FILE, Program, VReg};
-use plan::{Place, Plan, PlanRow, check_plan};
+use micro_isa::{MOST_FILE, Program};
+use plan::{Plan, check_plan};
 use std::alloc::Global;
 use std::test::Fail;
 
@@ -18,21 +19,7 @@ use std::test::Fail;
 const RING: &[u8] =
     b"file 4\noutput out\ncontext a\nli a, 1\nli b, 2\nli c, 3\nbeq a, b, next\nnext:\nadd a, a, b\nadd a, a, c\nsend out, a\nhalt\n";
 
-/// The entries of a row, and the place of its write.
-type Row = (&'static [(u16, u8)], Option<u8>);
-
-/// The walk of the split program: one move on both edges of the branch.
-const WALKED: &[Row] = &[
-    (&[], Some(0)),
-    (&[(0, 0)], None),
-    (&[(0, 0)], Some(1)),
-    (&[(0, 0), (1, 1)], None),
-    (&[(1, 0)], None),
-    (&[(1, 0)], None),
-    (&[], None),
-];
-
-/// Its fit over each region: one move behind the first yield.
+/// The fit of the split program over each region: one move behind the first yield.
 const BY_REGION: &[Row] = &[
     (&[], Some(0)),
     (&[(0, 0)], None),
@@ -66,36 +53,13 @@ type Case = (
 );
 
 const CASES: [Case; 6] = [
-    (SPLIT, WALKED, (1, 2), 3, 2, [3, 3, 3, 3, 3, 3, 3, 3]),
+    (SPLIT, &WALKED, (1, 2), 3, 2, [3, 3, 3, 3, 3, 3, 3, 3]),
     (SPLIT, BY_REGION, (1, 2), 1, 2, [1, 1, 1, 1, 1, 1, 1, 1]),
     (RING, TURNED, (0, 3), 13, 3, [13, 9, 9, 9, 9, 9, 9, 9]),
     (RING, TURNED, (0, 4), 9, 2, [13, 13, 9, 9, 9, 9, 9, 9]),
     (RING, TURNED, (0, 3), 13, 4, [9, 9, 9, 9, 9, 9, 9, 9]),
     (RING, TURNED, (0, 128), 9, 128, [9, 9, 9, 9, 9, 9, 9, 9]),
 ];
-
-fn row_of(alloc: Global, row: &Row) -> Result<PlanRow, Fail> {
-    let mut places = List::new(alloc);
-    for (register, place) in row.0 {
-        places.push(Place {
-            register: VReg(*register),
-            place: *place,
-        })?;
-    }
-    Ok(PlanRow {
-        places,
-        write: row.1,
-    })
-}
-
-fn plan_of(alloc: Global, listed: &[Row], sizes: (u32, u32)) -> Result<Plan, Fail> {
-    let mut rows = List::new(alloc);
-    for row in listed {
-        rows.push(row_of(alloc, row)?)?;
-    }
-    let (p, r) = sizes;
-    Ok(Plan { p, r, rows })
-}
 
 /// The glue of a plan, which is valid, and its glue by the number of places.
 fn glue_of(

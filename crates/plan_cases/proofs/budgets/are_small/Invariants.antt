@@ -1,6 +1,6 @@
 use Rattle.std.proofs.Common.{ℕ, ◌+◌, ◌*◌, ◌<◌, ◌≤◌, slice_index}
 use Rattle.budget.specs.declared.TheConstants.{SIZES, MOST_COST}
-use Rattle.fit_cases.proofs.budgets.are_small.Given as goal
+use Rattle.plan_cases.proofs.budgets.are_small.Given as goal
 
 abbrev pub invariant-loop-i : goal.invariant-loop-i
 invariant-loop-i l =
