@@ -6,7 +6,7 @@ pub returns-then-cost-walked-clause-cell : goal.returns-then-cost-walked-clause-
 returns-then-cost-walked-clause-cell c =
     let walk = c.requires.walk in (
       c.in_ok-cost.cost,
-      region_cell c.args.program.now.code c.args.p c.args.r c.in_ok-cost.cost c.args.walked.cost c.args.fitted c.args.walked.plan c.requires.out c.requires.fit c.in_ok-cost.ensures.number walk.walk walk.cost c.if-cost-walked.true,
+      region_cell c.args.program.now.code c.args.p c.args.r c.in_ok-cost.cost c.args.walked.cost c.args.fitted c.args.walked.plan c.requires.out c.requires.fit c.in_ok-cost.ensures.number walk.walk walk.cost (let low = c.if-cost-walked.true in omega arith),
     )
 
 pub returns-else-cost-walked-clause-cell : goal.returns-else-cost-walked-clause-cell
