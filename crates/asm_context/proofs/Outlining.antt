@@ -1,5 +1,5 @@
 -- What a walk over the labels alone knows.
-use Rattle.std.proofs.Common.{◌≡◌, ◌≤◌, ◌<◌, ◌+◌, ℕ, true, List, [], ◌∷◌, Option, Some, None, length, fold, refl, ap, sym, ◌∙◌, arith}
+use Rattle.std.proofs.Common.{◌≡◌, ◌≤◌, ◌<◌, ◌+◌, true, List, [], ◌∷◌, Option, Some, None, length, fold, refl, ap, sym, ◌∙◌, arith}
 use Rattle.micro_isa.specs.declared.operation.Operation.{Operation}
 use Rattle.micro_isa.specs.Table.{named, roles_of}
 use Rattle.asm_lines.specs.Cutting.{Words, TextLine}

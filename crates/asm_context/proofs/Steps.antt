@@ -1,5 +1,5 @@
 -- One line further in a context.
-use Rattle.std.proofs.Common.{◌≡◌, ◌++◌, ◌≤◌, ◌<◌, ℕ, ◌+◌, List, [], ◌∷◌, length, None, refl, sym, ap, ◌∙◌, subst, Bool, true, false, arith, append_assoc, append-nil}
+use Rattle.std.proofs.Common.{◌≡◌, ◌++◌, ◌≤◌, ◌<◌, ◌+◌, List, [], ◌∷◌, length, None, refl, sym, ap, ◌∙◌, subst, Bool, true, false, arith, append_assoc, append-nil}
 use Rattle.micro_isa.specs.declared.program.Line.{Line}
 use Rattle.asm_lines.specs.declared.fault.BundleFault.{BundleFault}
 use Rattle.asm_lines.specs.Cutting.{TextLine}

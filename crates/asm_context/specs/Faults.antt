@@ -1,5 +1,5 @@
 -- The first fault of a context's lines.
-use Rattle.std.specs.Prelude.{ℕ, ◌||◌, ◌&&◌, not, nat_lt, nat_eq, Bool, false, List, [], ◌∷◌, ◌++◌, Option, None, is_some, length, slice_get, if◌then◌else◌}
+use Rattle.std.specs.Prelude.{ℕ, ◌||◌, ◌&&◌, not, nat_lt, nat_eq, Bool, false, List, [], ◌∷◌, ◌++◌, Option, is_some, length, slice_get, if◌then◌else◌}
 use Rattle.std.specs.List.{list_any}
 use Rattle.micro_isa.specs.declared.program.Channel.{Channel}
 use Rattle.micro_isa.specs.Formed.{gives_words, takes_words}

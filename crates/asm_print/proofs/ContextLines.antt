@@ -22,7 +22,7 @@ use Rattle.asm_lines.specs.Cutting.{Words, TextLine}
 use Rattle.asm_lines.specs.Numbers.{is_no_number}
 use Rattle.asm_lines.specs.Tables.{knows, declare, misnamed, one}
 use Rattle.asm_context.specs.Faults.{channels, is_misnamed, is_stray, gives_none, takes_none, body_test, body_fault}
-use Rattle.asm_context.specs.Forms.{Form, Body, label_in, labelled, body_of, does, ends, registers_in, goes_to, receives_from, sends_to, number_in}
+use Rattle.asm_context.specs.Forms.{Form, Body, label_in, labelled, body_of, does, ends, registers_in, goes_to, receives_from, sends_to}
 use Rattle.asm_context.specs.Forms as form
 use Rattle.asm_context.specs.Programs.{instr_in, on_line}
 use Rattle.asm_context.specs.Said.{Said, with_body, count, targets_after}

@@ -9,7 +9,7 @@ use Rattle.asm_lines.specs.declared.fault.BundleFault.{BundleFault}
 use Rattle.asm_lines.specs.Cutting.{TextLine}
 use Rattle.asm_lines.specs.Faults.{At, Causes}
 use Rattle.asm_lines.specs.Verdicts.{Verdict, first_fault}
-use Rattle.asm_lines.specs.Sections.{starts, ahead, after}
+use Rattle.asm_lines.specs.Sections.{ahead, after}
 use Rattle.asm_lines.proofs.Causing.{caused_first}
 use Rattle.asm_lines.proofs.Verdicts.{first_append, free_in}
 use Rattle.asm_header.specs.Headers.{Header, setting_of}

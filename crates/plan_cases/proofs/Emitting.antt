@@ -1,5 +1,5 @@
 -- One plan has room in a register of its own and one that is shared.
-use Rattle.std.proofs.Common.{◌≡◌, ℕ, zero, suc, ◌+◌, ◌≤◌, List, [], ◌∷◌, length, sum, Some, refl, sym, subst, arith}
+use Rattle.std.proofs.Common.{◌≡◌, ℕ, zero, suc, ◌+◌, ◌≤◌, [], ◌∷◌, length, sum, Some, sym, subst, arith}
 use Rattle.std.specs.Prelude.{slice_get}
 use Rattle.std.proofs.lemmas.List.Sums.{sum_by-cons}
 use Rattle.std.proofs.lemmas.Option.{same_Some}
@@ -7,7 +7,6 @@ use Rattle.micro_isa.specs.declared.program.Program.{Program}
 use Rattle.micro_isa.specs.declared.program.Bundle.{Bundle}
 use Rattle.plan.specs.declared.row.Plan.{Plan}
 use Rattle.plan.specs.ValidPlans.{IsValidPlan}
-use Rattle.budget.specs.declared.Budget.{Budget}
 use Rattle.emitted.specs.Emitted.{ArePlans, PlansFit, size_of}
 
 pub one_plan : (b : Bundle) (plan : Plan) → length b.programs ≡ 1 → ((p : Program) → slice_get b.programs 0 ≡ Some p → IsValidPlan p.code plan) → ArePlans b (plan ∷ [])

@@ -1,15 +1,15 @@
 -- A flood numbers the region of its start.
-use Rattle.std.proofs.Common.{◌≡◌, ℕ, ◌+◌, ◌<◌, ◌≤◌, ◌⊎◌, Bool, true, false, List, [], ◌∷◌, ◌++◌, Option, Some, None, length, get_or, sym, subst, refl, ap, ◌∙◌, inl, inr, Contains, arith}
+use Rattle.std.proofs.Common.{◌≡◌, ℕ, ◌+◌, ◌<◌, ◌≤◌, ◌⊎◌, Bool, true, false, List, [], ◌∷◌, ◌++◌, Option, Some, None, length, get_or, sym, subst, refl, ap, ◌∙◌, inl, inr, arith}
 use Rattle.std.specs.Prelude.{is_some}
 use Rattle.std.proofs.lemmas.Bool.{cases_eq, cases_lt}
 use Rattle.std.proofs.lemmas.List.{length-append, get_or_append_left, get_or_default}
 use Rattle.std.proofs.Math.Seq.{get_or-append_seam}
 use Rattle.std.proofs.lemmas.Option.{slice_get_within}
 use Rattle.micro_isa.specs.declared.program.Line.{Line}
-use Rattle.flow_graph.specs.Paths.{GoesTo, IsClosedCode}
+use Rattle.flow_graph.specs.Paths.{IsClosedCode}
 use Rattle.pressure.specs.declared.ring.Rings.{Rings}
 use Rattle.pressure.specs.Regions.{Joined, Adjacent, Connected, IsLeastOf, IsNumbered}
-use Rattle.pressure.specs.Rings.{JoinedBy, Link, LinkOf, Leads, AreRinged, IsNobody}
+use Rattle.pressure.specs.Rings.{Link, LinkOf, Leads, AreRinged, IsNobody}
 use Rattle.pressure.specs.Floods.{HasNumber, Floods, IsUnused, AreLow, AreNumbered, ArePlain, ArePlainBelow}
 use Rattle.pressure.proofs.Ways.{trans, one, reroute, back, carry}
 use Rattle.pressure.proofs.Ringing.{either, some_below}

@@ -1,5 +1,5 @@
 -- Walks by links of any kind, put together, by other links, and back.
-use Rattle.std.proofs.Common.{◌≡◌, ℕ, List, [], ◌∷◌, sym, subst, refl}
+use Rattle.std.proofs.Common.{ℕ, List, [], ◌∷◌, sym, subst, refl}
 use Rattle.flow_graph.specs.Paths.{Walk}
 use Rattle.pressure.specs.Rings.{Leads}
 

@@ -1,4 +1,4 @@
-use Rattle.std.proofs.Common.{ap, ◌∙◌, arith}
+use Rattle.std.proofs.Common.{ap, arith}
 use Rattle.asm_lines.specs.Sections.{ahead, LinesLeft, TakesInside, IsAtEnd}
 use Rattle.asm_context.specs.Views.{seen_outline}
 use Rattle.asm_context.proofs.Outlining.{outlined_none, outlined_on, outlined_all, outlined_below}

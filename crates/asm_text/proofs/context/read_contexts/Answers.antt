@@ -3,7 +3,7 @@ use Rattle.asm_lines.specs.Faults.{Causes}
 use Rattle.asm_lines.specs.Sections.{Takes, IsDone}
 use Rattle.asm_lines.specs.Tables.{words_seen}
 use Rattle.asm_lines.proofs.Causing.{passed_up}
-use Rattle.asm_lines.proofs.Counting.{few_ahead, few_after}
+use Rattle.asm_lines.proofs.Counting.{few_ahead}
 use Rattle.asm_header.specs.Views.{seen_header}
 use Rattle.asm_text.specs.Contexts.{contexts_fault}
 use Rattle.asm_text.proofs.Walking.{unread, read_on, fewer, caused_here, all_free, all_programs, all_counted}

@@ -1,4 +1,4 @@
-use Rattle.std.proofs.Common.{◌≡◌, ℕ, List, [], ◌∷◌, ◌++◌, length, sym, ap, ◌∙◌, subst}
+use Rattle.std.proofs.Common.{ℕ, List, [], ◌∷◌, ◌++◌, sym, ap, ◌∙◌, subst}
 use Rattle.emitted.specs.Emitted.{ArePlans, PlansFit}
 use Rattle.plan_cases.proofs.Emitting.{one_plan, one_room}
 use Rattle.plan_cases.proofs.emission.image_of.Goals as goal

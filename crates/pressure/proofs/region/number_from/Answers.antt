@@ -1,4 +1,4 @@
-use Rattle.std.proofs.Common.{◌≡◌, ◌<◌, length, arith}
+use Rattle.std.proofs.Common.{◌<◌, length, arith}
 use Rattle.pressure.proofs.Numbering.{low_links, one_more, numbered_already, unnumbered}
 use Rattle.pressure.proofs.region.number_from.Goals as goal
 

@@ -1,5 +1,5 @@
-use Rattle.std.proofs.Common.{sym, refl, ◌∙◌}
-use Rattle.pressure.proofs.Ringing.{no_target, is_target}
+use Rattle.std.proofs.Common.{sym, ◌∙◌}
+use Rattle.pressure.proofs.Ringing.{no_target}
 use Rattle.pressure.proofs.ring.target_at.Goals as goal
 
 pub returns-then-switches : goal.returns-then-switches

@@ -1,4 +1,4 @@
-use Rattle.std.proofs.Common.{[], None, sym, ◌∙◌, subst}
+use Rattle.std.proofs.Common.{[], sym, ◌∙◌, subst}
 use Rattle.std.proofs.lemmas.Option.{slice_get-get_or}
 use Rattle.source_core.specs.SourceState.{IsContext}
 use Rattle.source_core.proofs.SegmentLemmas.{segment_is, stays_sound, code_read, is_placed, context_sound}
