@@ -20,10 +20,10 @@ use Rattle.report_run.specs.Report.{report_text}
 use Rattle.commands.specs.declared.task.Reply.{Reply}
 use Rattle.commands.specs.declared.prepared.Opening.{Opening}
 use Rattle.commands.specs.GivenBack.{WentOn, InTheirOrder}
-use Rattle.commands.specs.Openings.{IsReported}
+use Rattle.commands.specs.Openings.{IsAttached, IsReported}
 use Rattle.commands.specs.Reports.{IsReport, status_so_far}
 use Rattle.commands.specs.Tells.{IsRefusal}
-use Rattle.commands.proofs.Reporting.{IsAttached, report_is}
+use Rattle.commands.proofs.Reporting.{report_is}
 use Rattle.commands.proofs.Telling.{report_goes}
 
 gave_none : (left : Option (List ℕ)) → Gives left [] left

@@ -1,12 +1,9 @@
 -- What a task comes to before a port is asked tells what is to be told in the end.
-use Rattle.std.proofs.Common.{◌≡◌, ℕ, List, Bool, Option, Some, None, sym, subst, inl, inr}
+use Rattle.std.proofs.Common.{◌≡◌, ℕ, List, Bool, Option, Some, None, sym, subst, inl}
 use Rattle.micro_isa.specs.declared.program.Bundle.{Bundle}
 use Rattle.micro_isa.specs.declared.image.Image.{Image}
 use Rattle.ports.specs.declared.told.Told.{Told}
-use Rattle.emitted.specs.Emitted.{IsEmitted}
 use Rattle.allocate.specs.declared.allocation.Allocation.{Allocation}
-use Rattle.allocate.specs.declared.allocation.AllocFault.TheVariants.{NoFit}
-use Rattle.allocate.specs.Allocations.{IsAllocation, HasOneAllocation, TellsFault}
 use Rattle.asm_print.specs.Canonical.{canonical_text}
 use Rattle.report_check.specs.Checks.{IsCheckOf}
 use Rattle.run_journal.specs.Histories.{bound_of}
@@ -22,9 +19,10 @@ use Rattle.commands.specs.declared.prepared.Opening.{Opening}
 use Rattle.commands.specs.declared.prepared.Prepared.{Prepared}
 use Rattle.commands.specs.declared.prepared.Prepared.TheVariants as prepared
 use Rattle.commands.specs.Reports.{IsReport, IsSourceReport}
-use Rattle.commands.specs.Tells.{RunTells, BuildTells, FitsFile, IsServed, no_fit_line}
+use Rattle.commands.specs.Allocating.{IsItsOwn}
+use Rattle.commands.specs.Tells.{DoesNotFit, BuildTells, IsServed}
 use Rattle.commands.specs.Openings.{IsOpening, TellsAtOnce, TellsInTheEnd, ComesTo, ToldOfRun, ToldOfBundle, ToldOfImage}
-use Rattle.commands.proofs.Telling.{run_tells, run_does_not_fit, run_tells_by, exec_tells_by, report_served, not_both, served}
+use Rattle.commands.proofs.Telling.{run_tells, run_tells_by, exec_tells_by, report_served, not_both, served}
 
 -- the report of a run from an opening is one of a run of its image
 report_from : (in_rounds : Bool) (steps : ℕ) (m : Image) (need : Option ℕ) (o : Opening) (start now : List Told) (answer : Status) (text : List ℕ) → IsOpening steps m need o → IsReport in_rounds (bound_of o.run.engine) o.run.engine.image o.need start now answer text → IsReport in_rounds steps m need start now answer text
@@ -34,27 +32,21 @@ report_from in_rounds steps m need o start now answer text is report =
     (subst (λ n. IsReport in_rounds n o.run.engine.image o.need start now answer text) is.bound report))
 
 -- a bundle's image runs
-pub run_is_told : (steps : ℕ) (b : Bundle) (a : Allocation) (o : Opening) → IsAllocation b a → HasOneAllocation b → IsEmitted b a.plans a.budget a.image → IsOpening steps a.image (Some a.need) o → TellsInTheEnd (ToldOfRun steps b) o
-run_is_told steps b a o allocated only emitted is = record {
+pub run_is_told : (steps : ℕ) (b : Bundle) (a : Allocation) (o : Opening) → IsItsOwn b a → IsOpening steps a.image (Some a.need) o → TellsInTheEnd (ToldOfRun steps b) o
+run_is_told steps b a o own is = record {
   opens = is.opens;
   told = λ in_rounds start now answer text report.
       let known = report_from in_rounds steps a.image (Some a.need) o start now answer text is report in
       record {
-        tells = run_tells in_rounds steps answer b start now text a allocated only emitted known;
+        tells = run_tells in_rounds steps answer b start now text a own known;
         served = λ fits. report_served in_rounds steps a.image (Some a.need) start now answer text known;
       };
 }
 
 -- a bundle that does not fit its file
-short_serves : (in_rounds : Bool) (steps : ℕ) (answer : Status) (b : Bundle) (start now : List Told) (text : List ℕ) → RunTells in_rounds steps answer b start now text → FitsFile b → IsServed answer
-short_serves in_rounds steps answer b start now text (inl short) fits = absurd (not_both answer b text short fits)
-short_serves in_rounds steps answer b start now text (inr runs) fits = report_served in_rounds steps runs.allocation.image (Some runs.allocation.need) start now answer text runs.told
-
-pub short_is_told : (steps need file : ℕ) (b : Bundle) (r : Reply) → TellsFault b (NoFit need file) → r.status ≡ status.NoFit → r.text.items ≡ no_fit_line need file → TellsAtOnce (ToldOfRun steps b) r
-short_is_told steps need file b r fault answered told = record {
-  told = λ in_rounds start.
-      let tells = run_does_not_fit in_rounds steps need file r.status b start start r.text.items fault answered told in
-      record { tells = tells; served = short_serves in_rounds steps r.status b start start r.text.items tells };
+pub short_is_told : (steps : ℕ) (b : Bundle) (r : Reply) → DoesNotFit r.status b r.text.items → TellsAtOnce (ToldOfRun steps b) r
+short_is_told steps b r short = record {
+  told = λ in_rounds start. record { tells = inl short; served = λ fits. absurd (not_both r.status b r.text.items short fits) };
 }
 
 -- what a run tells is told in the order that the task asks for

@@ -1,6 +1,7 @@
 -- The run of an image, and its report.
-use Rattle.std.proofs.Common.{◌≡◌, ℕ, zero, suc, ◌<◌, List, [], ◌∷◌, ◌++◌, Bool, true, false, Option, Some, None, refl, sym, ap, ◌∙◌, subst, arith}
-use Rattle.std.specs.Prelude.{replicate, if◌then◌else◌, ◌||◌, ◌==◌}
+use Rattle.std.proofs.Common.{◌≡◌, ℕ, zero, suc, ◌<◌, List, [], ◌∷◌, ◌++◌, Bool, true, false, Option, Some, None, Result, Ok, Err, refl, sym, ap, ◌∙◌, subst, arith}
+use Rattle.std.specs.Prelude.{replicate, if◌then◌else◌, ◌||◌, ◌==◌, IfOk}
+use Rattle.micro_isa.specs.declared.list.NoMemory.{NoMemory}
 use Rattle.std.specs.List.{flat_map, list_all}
 use Rattle.std.specs.Option.{option_or}
 use Rattle.std.proofs.lemmas.Bool.{eqb-true}
@@ -34,6 +35,8 @@ use Rattle.context_runner.specs.Benches.{IsBench}
 use Rattle.context_runner.specs.Endings.{Brought, WentInRounds, round_at}
 use Rattle.report_run.specs.Report.{report_text}
 use Rattle.commands.specs.declared.status.Status.{Status}
+use Rattle.commands.specs.declared.task.Reply.{Reply}
+use Rattle.commands.specs.Openings.{IsAttached}
 use Rattle.commands.specs.Reports.{IsReport, IsRunOf, IsSourceReport, IsIdleForGood, InRounds, handed_in, opening_entries, status_of, status_so_far}
 
 -- no context ran in an opening
@@ -78,17 +81,6 @@ idle_for_good core idle end quiet ended is =
     let none : some_runnable core ≡ false = quiet.none (subst (λ n. 0 < n) (sym pumps) (omega arith)) in
     record { pumps = pumps; none = none; input = still_open core h.0 none }
 
--- the opening of a run, whose ports are attached
-pub record IsAttached (r r' : RunState) (s : SlotsState) : Type 0 where
-  pub known : IsHistory r.engine r.entries
-  pub none : r.entries ≡ []
-  pub entries : r'.entries ≡ detached (channels_of r.engine) r.engine.core.world s MOST_CHANNELS
-  pub image : r'.engine.image ≡ r.engine.image
-  pub bound : bound_of r'.engine ≡ bound_of r.engine
-  pub after : IsHistory r'.engine r'.entries
-  pub whole : s.retired ≡ replicate MOST_PORTS false
-  pub idle : r'.idle ≡ 0
-
 opened_at : (r : RunState) → IsHistory r.engine r.entries → r.entries ≡ [] → machine_open r.engine.image (bound_of r.engine) ≡ engine.config_of r.engine
 opened_at r h none = subst (λ es. LeadsTo (machine_semantics r.engine.image) (machine_open r.engine.image (bound_of r.engine)) es (engine.config_of r.engine)) none h.legal
 
@@ -111,7 +103,7 @@ first_at : (r r' : RunState) (s : SlotsState) → IsAttached r r' s → round_at
 first_at r r' s a =
     ap (λ x. record { last = last_of None x; idle = r'.idle }) a.entries
     ∙ ap (λ x. record { last = x; idle = r'.idle }) (detached_last (channels_of r.engine) r.engine.core.world s MOST_CHANNELS)
-    ∙ ap (λ n. record { last = None; idle = n }) a.idle
+    ∙ ap (λ n. record { last = None; idle = n }) a.fresh.idle
 
 in_rounds_is : (r r' after : RunState) (s : SlotsState) → IsAttached r r' s → WentInRounds r' after → InRounds r.engine.image (bound_of r.engine) (opening_entries r.engine.image (bound_of r.engine) s.told) after.entries (engine.config_of after.engine) after.idle
 in_rounds_is r r' after s a went =
@@ -157,6 +149,8 @@ report_is in_rounds r r' after s s' need answer text a b bench answered told = r
       ∙ ap (λ o. report_text need (Some r.engine.image) r.engine.image.setting.channels after.entries (record { view = shown_core after.engine.core; file = Some after.engine.file; ending = o })) b.ended;
 }
 
-pub source_report_is : (steps : ℕ) (b : Bundle) (answer : Status) (text : List ℕ) (after : SourceState) (entries : List Entry) (end : End) → IsRoundRun (source_semantics b) (source_open b steps) (source.config_of after) entries end → answer ≡ status_of end after.core.phases → text ≡ report_text None None b.setting.channels entries (record { view = shown_core after.core; file = None; ending = Some end }) → IsSourceReport steps b answer text
-source_report_is steps b answer text after entries end run answered told =
+-- the report of a run of sources, if there was memory for it
+pub source_report_is : (result : Result Reply NoMemory) (steps : ℕ) (b : Bundle) (after : SourceState) (entries : List Entry) (end : End) → IsRoundRun (source_semantics b) (source_open b steps) (source.config_of after) entries end → IfOk result (λ r. r.status ≡ status_of end after.core.phases) → IfOk result (λ r. r.text.items ≡ report_text None None b.setting.channels entries (record { view = shown_core after.core; file = None; ending = Some end })) → IfOk result (λ r. IsSourceReport steps b r.status r.text.items)
+source_report_is (Ok r) steps b after entries end run answered told =
     record { entries = entries; last = source.config_of after; end = end; run = run; answered = answered; reported = told }
+source_report_is (Err why) steps b after entries end run answered told = tt

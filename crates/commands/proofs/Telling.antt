@@ -1,6 +1,6 @@
 -- What tasks tell, from what their parts leave; and that what fits is served.
-use Rattle.std.proofs.Common.{◌≡◌, ℕ, ◌<◌, List, Bool, true, false, Option, Some, None, sym, subst, arith, inl, inr}
-use Rattle.std.specs.Prelude.{if◌then◌else◌}
+use Rattle.std.proofs.Common.{◌≡◌, ℕ, ◌<◌, List, Bool, true, false, Option, Some, None, Result, Ok, Err, sym, subst, arith, inl, inr}
+use Rattle.std.specs.Prelude.{if◌then◌else◌, IfOk}
 use Rattle.std.specs.List.{list_any}
 use Rattle.micro_isa.specs.declared.program.Bundle.{Bundle}
 use Rattle.micro_isa.specs.declared.image.Image.{Image}
@@ -8,10 +8,10 @@ use Rattle.world.specs.declared.event.Phase.{Phase}
 use Rattle.world.specs.declared.event.End.{End}
 use Rattle.world.specs.declared.event.End.TheVariants as ending
 use Rattle.ports.specs.declared.told.Told.{Told}
-use Rattle.emitted.specs.Emitted.{IsEmitted}
+use Rattle.micro_isa.specs.declared.list.NoMemory.{NoMemory}
 use Rattle.allocate.specs.declared.allocation.Allocation.{Allocation}
 use Rattle.allocate.specs.declared.allocation.AllocFault.TheVariants.{NoFit}
-use Rattle.allocate.specs.Allocations.{IsAllocation, HasOneAllocation, TellsFault}
+use Rattle.allocate.specs.Allocations.{TellsFault}
 use Rattle.commands.specs.declared.status.Status.{Status}
 use Rattle.commands.specs.declared.status.Status.TheVariants as status
 use Rattle.commands.specs.declared.task.Order.{Order}
@@ -19,6 +19,8 @@ use Rattle.commands.specs.declared.task.BundleTask.{BundleTask}
 use Rattle.commands.specs.declared.task.BundleTask.TheVariants as bundle
 use Rattle.commands.specs.declared.task.ImageTask.{ImageTask}
 use Rattle.commands.specs.declared.task.ImageTask.TheVariants as image
+use Rattle.commands.specs.declared.task.Reply.{Reply}
+use Rattle.commands.specs.Allocating.{IsItsOwn}
 use Rattle.commands.specs.Reports.{IsReport, has_trapped, status_of}
 use Rattle.commands.specs.Tells.{DoesNotFit, OfItsImage, IsWritten, RunTells, BuildTells, TellsOfBundle, TellsOfImage, RunsBundleBy, RunsImageBy, is_round, FitsFile, Fits, IsServed, IsRefusal, no_fit_line}
 
@@ -27,14 +29,11 @@ does_not_fit answer b text need file fault answered told =
     let above : b.file < need = subst (λ n. n < need) fault.1 fault.2 in
     record { need = need; needed = fault.0; above = above; answered = answered; told = subst (λ n. text ≡ no_fit_line need n) fault.1 told }
 
-pub of_image : (tells : Allocation → Type 0) (b : Bundle) (a : Allocation) → IsAllocation b a → HasOneAllocation b → IsEmitted b a.plans a.budget a.image → tells a → OfItsImage tells b
-of_image tells b a allocated only emitted told = record { allocation = a; allocated = allocated; only = only; same = emitted.implements; told = told }
+pub of_image : (tells : Allocation → Type 0) (b : Bundle) (a : Allocation) → IsItsOwn b a → tells a → OfItsImage tells b
+of_image tells b a own told = record { allocation = a; allocated = own.allocated; only = own.only; same = own.emitted.implements; told = told }
 
-pub run_tells : (in_rounds : Bool) (steps : ℕ) (answer : Status) (b : Bundle) (start now : List Told) (text : List ℕ) (a : Allocation) → IsAllocation b a → HasOneAllocation b → IsEmitted b a.plans a.budget a.image → IsReport in_rounds steps a.image (Some a.need) start now answer text → RunTells in_rounds steps answer b start now text
-run_tells in_rounds steps answer b start now text a allocated only emitted report = inr (of_image (λ x. IsReport in_rounds steps x.image (Some x.need) start now answer text) b a allocated only emitted report)
-
-pub run_does_not_fit : (in_rounds : Bool) (steps need file : ℕ) (answer : Status) (b : Bundle) (start now : List Told) (text : List ℕ) → TellsFault b (NoFit need file) → answer ≡ status.NoFit → text ≡ no_fit_line need file → RunTells in_rounds steps answer b start now text
-run_does_not_fit in_rounds steps need file answer b start now text fault answered told = inl (does_not_fit answer b text need file fault answered told)
+pub run_tells : (in_rounds : Bool) (steps : ℕ) (answer : Status) (b : Bundle) (start now : List Told) (text : List ℕ) (a : Allocation) → IsItsOwn b a → IsReport in_rounds steps a.image (Some a.need) start now answer text → RunTells in_rounds steps answer b start now text
+run_tells in_rounds steps answer b start now text a own report = inr (of_image (λ x. IsReport in_rounds steps x.image (Some x.need) start now answer text) b a own report)
 
 -- what is told of a run is told in the order that the task asks for
 pub run_tells_by : (in_rounds : Bool) (t : BundleTask) (steps : ℕ) (order : Order) (answer : Status) (b : Bundle) (start now : List Told) (text : List ℕ) → t ≡ bundle.Run steps order → RunsBundleBy in_rounds t → RunTells in_rounds steps answer b start now text → TellsOfBundle t answer b start now text
@@ -47,11 +46,10 @@ exec_tells_by in_rounds t steps order answer m start now text is by report =
     let same : is_round order ≡ in_rounds = subst (RunsImageBy in_rounds) is by in
     subst (λ x. TellsOfImage x answer m start now text) (sym is) (subst (λ x. IsReport x steps m None start now answer text) (sym same) report)
 
-pub build_tells : (answer : Status) (b : Bundle) (text : List ℕ) (a : Allocation) → IsAllocation b a → HasOneAllocation b → IsEmitted b a.plans a.budget a.image → IsWritten answer text a.image → BuildTells answer b text
-build_tells answer b text a allocated only emitted written = inr (of_image (λ x. IsWritten answer text x.image) b a allocated only emitted written)
-
-pub build_does_not_fit : (need file : ℕ) (answer : Status) (b : Bundle) (text : List ℕ) → TellsFault b (NoFit need file) → answer ≡ status.NoFit → text ≡ no_fit_line need file → BuildTells answer b text
-build_does_not_fit need file answer b text fault answered told = inl (does_not_fit answer b text need file fault answered told)
+-- the bytes of the image, if there was memory for them
+pub build_tells : (result : Result Reply NoMemory) (b : Bundle) (a : Allocation) → IsItsOwn b a → IfOk result (λ r. IsWritten r.status r.text.items a.image) → IfOk result (λ r. BuildTells r.status b r.text.items)
+build_tells (Ok r) b a own written = inr (of_image (λ x. IsWritten r.status r.text.items x.image) b a own written)
+build_tells (Err why) b a own written = tt
 
 finished_served : (b : Bool) → IsServed (if b then status.Trapped else status.Done)
 finished_served true = tt

@@ -1,10 +1,13 @@
 -- What a task comes to before a port is asked or handed anything, and what is told in the end.
-use Rattle.std.specs.Prelude.{◌≡◌, ℕ, List, [], length, Option, Bool, Result, IfOk}
+use Rattle.std.specs.Prelude.{◌≡◌, ℕ, List, [], length, replicate, Option, Bool, false, Result, IfOk}
+use Rattle.micro_isa.specs.declared.limits.TheConstants.{MOST_CHANNELS, MOST_PORTS}
 use Rattle.micro_isa.specs.declared.list.NoMemory.{NoMemory}
 use Rattle.micro_isa.specs.declared.program.Bundle.{Bundle}
 use Rattle.micro_isa.specs.declared.image.Image.{Image}
 use Rattle.ports.specs.declared.told.Told.{Told}
-use Rattle.run_journal.specs.Histories.{bound_of}
+use Rattle.ports.specs.SlotsState.{SlotsState}
+use Rattle.run_journal.specs.Attaching.{IsFresh, detached}
+use Rattle.run_journal.specs.Histories.{RunState, IsHistory, bound_of, channels_of}
 use Rattle.commands.specs.declared.status.Status.{Status}
 use Rattle.commands.specs.declared.task.Reply.{Reply}
 use Rattle.commands.specs.declared.task.BundleTask.{BundleTask}
@@ -26,6 +29,17 @@ pub record IsOpening (steps : ℕ) (m : Image) (need : Option ℕ) (o : Opening)
   pub bound : bound_of o.run.engine ≡ steps
   pub image : o.run.engine.image ≡ m
   pub needed : o.need ≡ need
+
+-- a run from its opening, to which ports were attached
+pub record IsAttached (r r' : RunState) (s : SlotsState) : Type 0 where
+  pub known : IsHistory r.engine r.entries
+  pub none : r.entries ≡ []
+  pub entries : r'.entries ≡ detached (channels_of r.engine) r.engine.core.world s MOST_CHANNELS
+  pub image : r'.engine.image ≡ r.engine.image
+  pub bound : bound_of r'.engine ≡ bound_of r.engine
+  pub after : IsHistory r'.engine r'.entries
+  pub whole : s.retired ≡ replicate MOST_PORTS false
+  pub fresh : IsFresh r' s
 
 -- a reply tells this whatever the ports tell, which are not looked at
 pub record TellsAtOnce (tells : Telling) (r : Reply) : Type 0 where

@@ -6,32 +6,27 @@ ghost use Rattle.commands.specs.Openings.{ComesTo, IsOpening, ToldOfRun};
 ghost use Rattle.commands.specs.Tells.{BuildTells, IsWritten};
 
 use crate::image_runs::open_run;
-use crate::no_fit::no_fit;
+use crate::no_fit::{Allocated, allocation_of};
 use crate::prepared::{Opening, Prepared};
 use crate::status::Status;
 use crate::task::Reply;
-use allocate::{AllocFault, Allocation, allocate};
+use allocate::Allocation;
 use image_load::write_image;
 use micro_isa::{Bundle, Image, MOST_STEPS, NoMemory};
 use std::alloc::Global;
 
 /// The opening of the run of a bundle's image, where the bundle fits its file.
-#[tactic(auto, using(crate::proofs::Preparing::run_is_told))]
+#[tactic(auto, using(crate::proofs::Preparing::short_is_told))]
 pub(crate) fn run_bundle(alloc: Global, bundle: &Bundle, steps: u32) -> Result<Prepared, NoMemory>
     requires formed { IsFormedBundle bundle.now }
     requires bound { steps ≤ MOST_STEPS }
     ensures { IfOk result (ComesTo (ToldOfRun steps bundle.now)) }
 {
-    match allocate(alloc, bundle) {
-        Ok(allocation) => match open_allocated(alloc, allocation, steps) {
-            Ok(opening) => Ok(Prepared::Run(opening)),
-            Err(NoMemory) => Err(NoMemory),
-        },
-        Err(AllocFault::NoFit { need, file }) => match no_fit(alloc, need, file) {
-            Ok(reply) => Ok(Prepared::Reply(reply)),
-            Err(NoMemory) => Err(NoMemory),
-        },
-        Err(AllocFault::NoMemory) => Err(NoMemory),
+    match allocation_of(alloc, bundle)? {
+        Allocated::Fits(allocation) => {
+            Ok(Prepared::Run(open_allocated(alloc, allocation, steps)?))
+        }
+        Allocated::Short(reply) => Ok(Prepared::Reply(reply)),
     }
 }
 
@@ -46,21 +41,14 @@ fn open_allocated(alloc: Global, allocation: Allocation, steps: u32) -> Result<O
 }
 
 /// The bytes of a bundle's image, where the bundle fits its file.
-#[tactic(auto, using(crate::proofs::Telling::build_tells, crate::proofs::Telling::build_does_not_fit))]
+#[tactic(auto, using(crate::proofs::Telling::build_tells))]
 pub(crate) fn build_bundle(alloc: Global, bundle: &Bundle) -> Result<Reply, NoMemory>
     requires { IsFormedBundle bundle.now }
     ensures { IfOk result (λ r. BuildTells r.status bundle.now r.text.items) }
 {
-    match allocate(alloc, bundle) {
-        Ok(allocation) => match written(alloc, &allocation.image) {
-            Ok(reply) => Ok(reply),
-            Err(NoMemory) => Err(NoMemory),
-        },
-        Err(AllocFault::NoFit { need, file }) => match no_fit(alloc, need, file) {
-            Ok(reply) => Ok(reply),
-            Err(NoMemory) => Err(NoMemory),
-        },
-        Err(AllocFault::NoMemory) => Err(NoMemory),
+    match allocation_of(alloc, bundle)? {
+        Allocated::Fits(allocation) => written(alloc, &allocation.image),
+        Allocated::Short(reply) => Ok(reply),
     }
 }
 
@@ -68,11 +56,9 @@ fn written(alloc: Global, image: &Image) -> Result<Reply, NoMemory>
     requires { IsFormedImage image.now }
     ensures { IfOk result (λ r. IsWritten r.status r.text.items image.now) }
 {
-    match write_image(alloc, image) {
-        Ok(text) => Ok(Reply {
-            status: Status::Done,
-            text,
-        }),
-        Err(NoMemory) => Err(NoMemory),
-    }
+    let text = write_image(alloc, image)?;
+    Ok(Reply {
+        status: Status::Done,
+        text,
+    })
 }

@@ -44,24 +44,20 @@ fn format_bundle(alloc: Global, bundle: &Bundle) -> Result<Reply, NoMemory>
     requires { IsFormedBundle bundle.now }
     ensures { IfOk result (λ r. (r.status ≡ status.Done) × (r.text.items ≡ canonical_text bundle.now)) }
 {
-    match print_bundle(alloc, bundle) {
-        Ok(text) => Ok(Reply {
-            status: Status::Done,
-            text,
-        }),
-        Err(NoMemory) => Err(NoMemory),
-    }
+    let text = print_bundle(alloc, bundle)?;
+    Ok(Reply {
+        status: Status::Done,
+        text,
+    })
 }
 
 fn check_bundle(alloc: Global, bundle: &Bundle) -> Result<Reply, NoMemory>
     requires { IsFormedBundle bundle.now }
     ensures { IfOk result (λ r. (r.status ≡ status.Done) × IsCheckOf bundle.now r.text.items) }
 {
-    match print_check(alloc, bundle) {
-        Ok(text) => Ok(Reply {
-            status: Status::Done,
-            text,
-        }),
-        Err(NoMemory) => Err(NoMemory),
-    }
+    let text = print_check(alloc, bundle)?;
+    Ok(Reply {
+        status: Status::Done,
+        text,
+    })
 }

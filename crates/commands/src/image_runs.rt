@@ -5,7 +5,7 @@ ghost use Rattle.micro_isa.specs.Formed.{IsFormedImage};
 ghost use Rattle.semantics.specs.Core.{shown_core};
 ghost use Rattle.run_journal.specs.Histories.{run_ending};
 ghost use Rattle.report_run.specs.Report.{report_text};
-ghost use Rattle.commands.specs.Openings.{IsOpening, IsReported};
+ghost use Rattle.commands.specs.Openings.{IsAttached, IsOpening, IsReported};
 ghost use Rattle.commands.specs.Reports.{status_so_far};
 
 use crate::prepared::Opening;
@@ -34,10 +34,8 @@ pub(crate) fn open_run(
     requires bound { steps ≤ MOST_STEPS }
     ensures { IfOk result (IsOpening steps image need) }
 {
-    match Run::of(alloc, image, steps) {
-        Ok(run) => Ok(Opening { run, need }),
-        Err(NoMemory) => Err(NoMemory),
-    }
+    let run = Run::of(alloc, image, steps)?;
+    Ok(Opening { run, need })
 }
 
 /// The report of a run with these ports, which goes from its opening to an ending in round order, and
@@ -52,11 +50,9 @@ pub fn report_in_rounds<P: Port + Send>(
     requires few { length ports.items ≤ MOST_PORTS }
     ensures { IsReported true opening (map P.tells ports.items) (map P.tells result.1.items) ports.items result.1.items result.0 }
 {
-    let Opening { mut run, need } = opening;
-    let slots = Slots::of(ports);
-    run.attach(&slots);
+    let (run, slots) = attached(opening.run, ports);
     match InRounds.bring(alloc, run, slots) {
-        Ok(closed) => report_of_closed(alloc, need, closed),
+        Ok(closed) => report_of_closed(alloc, opening.need, closed),
         Err(closed) => (Err(NoMemory), ports_of(closed)),
     }
 }
@@ -73,13 +69,24 @@ pub fn report_in_threads<P: Port + Send, R: Threads + Wait + Sync, G: Gate + Syn
     requires few { length ports.items ≤ MOST_PORTS }
     ensures { IsReported false opening (map P.tells ports.items) (map P.tells result.1.items) ports.items result.1.items result.0 }
 {
-    let Opening { mut run, need } = opening;
-    let slots = Slots::of(ports);
-    run.attach(&slots);
+    let (run, slots) = attached(opening.run, ports);
     match run_in_threads(rt, gate, alloc, run, slots) {
-        Ok(closed) => report_of_closed(alloc, need, closed),
+        Ok(closed) => report_of_closed(alloc, opening.need, closed),
         Err(closed) => (Err(NoMemory), ports_of(closed)),
     }
+}
+
+/// A run from its opening, and the ports that it has.
+pub(crate) fn attached<P: Port>(run: Run, ports: Vec<P>) -> (Run, Slots<P>)
+    requires opens { run.entries ≡ [] }
+    requires few { length ports.items ≤ MOST_PORTS }
+    ensures attached { IsAttached run result.0 result.1 }
+    ensures told { result.1.told ≡ map P.tells ports.items }
+{
+    let mut run = run;
+    let slots = Slots::of(ports);
+    run.attach(&slots);
+    (run, slots)
 }
 
 /// The report of a run that came out, and its ports.

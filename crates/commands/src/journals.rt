@@ -8,16 +8,16 @@ ghost use Rattle.commands.specs.declared.status.Status.TheVariants as status;
 
 use crate::image_runs::report_of_run;
 use crate::journal_lines::{differs_line, illegal_line, unread_line};
-use crate::no_fit::no_fit;
+use crate::no_fit::{Allocated, allocation_of};
 use crate::status::Status;
 use crate::task::{JournalTask, Reply};
-use allocate::{AllocFault, allocate};
 use micro_isa::{Bundle, Image, LONGEST_JOURNAL, MOST_STEPS, NoMemory};
 use run_journal::{ReplayFault, TextFault, replay_text};
 use std::alloc::Global;
 
-/// Does a task with a formed bundle and the text of a journal.
-#[tactic(auto, using(crate::proofs::Replaying::told_with, crate::proofs::Replaying::served_with))]
+/// Does a task with a formed bundle and the text of a journal, which the bundle's image follows where
+/// the bundle fits its file.
+#[tactic(auto, using(crate::proofs::Replaying::short_tells, crate::proofs::Replaying::short_serves))]
 pub fn perform_on_journal(
     alloc: Global,
     task: JournalTask,
@@ -30,9 +30,16 @@ pub fn perform_on_journal(
     ensures tells { IfOk result (λ r. TellsOfJournal task r.status bundle.now journal.now r.text.items) }
     ensures served { IfOk result (λ r. FitsJournal task bundle.now journal.now → IsServed r.status) }
 {
-    match replay_bundle(alloc, bundle, journal, steps_of(task)) {
-        Ok(reply) => Ok(reply),
-        Err(NoMemory) => Err(NoMemory),
+    let steps = steps_of(task);
+    match allocation_of(alloc, bundle)? {
+        Allocated::Fits(allocation) => replay_image(
+            alloc,
+            &allocation.image,
+            allocation.need,
+            journal,
+            steps,
+        ),
+        Allocated::Short(reply) => Ok(reply),
     }
 }
 
@@ -45,40 +52,8 @@ fn steps_of(task: JournalTask) -> u32
     }
 }
 
-/// A journal is followed by the image of a bundle, where the bundle fits its file.
-#[tactic(auto, using(crate::proofs::Replaying::replay_tells, crate::proofs::Replaying::replay_does_not_fit))]
-fn replay_bundle(
-    alloc: Global,
-    bundle: &Bundle,
-    journal: &[u8],
-    steps: u32,
-) -> Result<Reply, NoMemory>
-    requires formed { IsFormedBundle bundle.now }
-    requires bound { steps ≤ MOST_STEPS }
-    requires short { length journal.now ≤ LONGEST_JOURNAL }
-    ensures { IfOk result (λ r. TellsOfJournal (JournalTask.Replay steps) r.status bundle.now journal.now r.text.items) }
-{
-    match allocate(alloc, bundle) {
-        Ok(allocation) => match replay_image(
-            alloc,
-            &allocation.image,
-            allocation.need,
-            journal,
-            steps,
-        ) {
-            Ok(reply) => Ok(reply),
-            Err(NoMemory) => Err(NoMemory),
-        },
-        Err(AllocFault::NoFit { need, file }) => match no_fit(alloc, need, file) {
-            Ok(reply) => Ok(reply),
-            Err(NoMemory) => Err(NoMemory),
-        },
-        Err(AllocFault::NoMemory) => Err(NoMemory),
-    }
-}
-
 /// The journal is followed line by line: the report of the run that has its entries, or what strays.
-#[tactic(auto, using(crate::proofs::Replaying::told_unread, crate::proofs::Replaying::told_stray, crate::proofs::Replaying::told_run))]
+#[tactic(auto, using(crate::proofs::Replaying::told_unread, crate::proofs::Replaying::told_stray))]
 fn replay_image(
     alloc: Global,
     image: &Image,
@@ -92,28 +67,16 @@ fn replay_image(
     ensures { IfOk result (λ r. Replayed steps image.now need journal.now r.status r.text.items) }
 {
     match replay_text(alloc, image, journal, steps) {
-        Ok(run) => match report_of_run(alloc, Some(need), &run) {
-            Ok(reply) => Ok(reply),
-            Err(NoMemory) => Err(NoMemory),
-        },
-        Err(TextFault::Reading { at }) => match unread(alloc, at) {
-            Ok(reply) => Ok(reply),
-            Err(NoMemory) => Err(NoMemory),
-        },
-        Err(TextFault::Strays(why)) => match stray(alloc, why) {
-            Ok(reply) => Ok(reply),
-            Err(NoMemory) => Err(NoMemory),
-        },
+        Ok(run) => report_of_run(alloc, Some(need), &run),
+        Err(TextFault::Reading { at }) => unread(alloc, at),
+        Err(TextFault::Strays(why)) => stray(alloc, why),
     }
 }
 
 fn unread(alloc: Global, at: u32) -> Result<Reply, NoMemory>
     ensures { IfOk result (λ r. (r.status ≡ status.BadJournal) × (r.text.items ≡ unread_line at)) }
 {
-    match unread_line(alloc, at) {
-        Ok(text) => Ok(bad_journal(text)),
-        Err(NoMemory) => Err(NoMemory),
-    }
+    Ok(bad_journal(unread_line(alloc, at)?))
 }
 
 fn bad_journal(text: Vec<u8>) -> Reply
@@ -130,10 +93,7 @@ fn bad_journal(text: Vec<u8>) -> Reply
 fn stray(alloc: Global, why: ReplayFault) -> Result<Reply, NoMemory>
     ensures { IfOk result (λ r. (r.status ≡ status.BadJournal) × TellsStray why r.text.items) }
 {
-    match stray_line(alloc, why) {
-        Ok(text) => Ok(bad_journal(text)),
-        Err(NoMemory) => Err(NoMemory),
-    }
+    Ok(bad_journal(stray_line(alloc, why)?))
 }
 
 fn stray_line(alloc: Global, why: ReplayFault) -> Result<Vec<u8>, NoMemory>

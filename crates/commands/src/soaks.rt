@@ -9,14 +9,13 @@ ghost use Rattle.commands.specs.Reports.{status_so_far};
 ghost use Rattle.commands.specs.Soaks.{IsSummary, TellsSoak};
 ghost use Rattle.commands.specs.Tells.{FitsFile, IsServed};
 
-use crate::image_runs::{outcome, ports_of};
-use crate::no_fit::no_fit;
+use crate::image_runs::{attached, outcome, ports_of};
+use crate::no_fit::{Allocated, allocation_of};
 use crate::reports::status_so_far;
 use crate::task::Reply;
-use allocate::{AllocFault, allocate};
 use context_runner::{Closed, InRounds, Runner};
 use micro_isa::{Image, MOST_STEPS, NoMemory};
-use ports::{Ramp, Slots};
+use ports::Ramp;
 use report_run::print_soak;
 use run_journal::Run;
 use soak_gen::generated;
@@ -31,23 +30,15 @@ pub fn perform_soak(alloc: Global, number: u32) -> Result<Reply, NoMemory>
     soak(alloc, number)
 }
 
-#[tactic(auto, using(crate::proofs::Soaking::soak_tells, crate::proofs::Soaking::soak_does_not_fit))]
 fn soak(alloc: Global, number: u32) -> Result<Reply, NoMemory>
     ensures { IfOk result (λ r. TellsSoak number r.status r.text.items) }
 {
     let bundle = generated(alloc, number)?;
-    match allocate(alloc, &bundle) {
-        Ok(allocation) => {
-            match soak_image(alloc, number, allocation.need, allocation.image) {
-                Ok(reply) => Ok(reply),
-                Err(NoMemory) => Err(NoMemory),
-            }
+    match allocation_of(alloc, &bundle)? {
+        Allocated::Fits(allocation) => {
+            soak_image(alloc, number, allocation.need, allocation.image)
         }
-        Err(AllocFault::NoFit { need, file }) => match no_fit(alloc, need, file) {
-            Ok(reply) => Ok(reply),
-            Err(NoMemory) => Err(NoMemory),
-        },
-        Err(AllocFault::NoMemory) => Err(NoMemory),
+        Allocated::Short(reply) => Ok(reply),
     }
 }
 
@@ -55,21 +46,17 @@ fn soak_image(alloc: Global, number: u32, need: u32, image: Image) -> Result<Rep
     requires { IsFormedImage image }
     ensures { IfOk result (λ r. IsSummary number need MOST_STEPS image r.status r.text.items) }
 {
-    match Run::of(alloc, image, MOST_STEPS) {
-        Ok(run) => soak_run(alloc, number, need, run),
-        Err(NoMemory) => Err(NoMemory),
-    }
+    let run = Run::of(alloc, image, MOST_STEPS)?;
+    soak_run(alloc, number, need, run)
 }
 
 /// Brings a run from its opening to its ending, and sums it up.
-#[tactic(auto, using(crate::proofs::Soaking::summary_is))]
 fn soak_run(alloc: Global, number: u32, need: u32, run: Run) -> Result<Reply, NoMemory>
     requires { run.entries ≡ [] }
     ensures { IfOk result (λ r. IsSummary number need (bound_of run.engine) run.engine.image r.status r.text.items) }
 {
-    let mut run = run;
-    let slots: Slots<Ramp> = Slots::of(Vec::new(alloc));
-    run.attach(&slots);
+    let ports: Vec<Ramp> = Vec::new(alloc);
+    let (run, slots) = attached(run, ports);
     match InRounds.bring(alloc, run, slots) {
         Ok(closed) => summary_of_closed(alloc, number, need, closed),
         Err(closed) => {

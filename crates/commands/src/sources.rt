@@ -23,10 +23,7 @@ pub(crate) fn run_sources(alloc: Global, bundle: &Bundle, steps: u32) -> Result<
     ensures { IfOk result (λ r. IsSourceReport steps bundle.now r.status r.text.items) }
 {
     let run = run_source(alloc, bundle, steps)?;
-    match report_of(alloc, bundle, &run) {
-        Ok(reply) => Ok(reply),
-        Err(NoMemory) => Err(NoMemory),
-    }
+    report_of(alloc, bundle, &run)
 }
 
 fn report_of(alloc: Global, bundle: &Bundle, run: &SourceRounds) -> Result<Reply, NoMemory>

@@ -4,7 +4,5 @@ use Rattle.commands.proofs.image_runs.report_in_rounds.Goals as goal
 
 pub returns-in-Ok : goal.returns-in-Ok
 returns-in-Ok g c =
-    let at = c.attach.ensures in
-    reported g.P.Port.tells true c.args.opening c.attach.new.self c.in-Ok.closed.run c.of-slots.result c.in-Ok.closed.slots c.report_of_closed.result.0 c.args.ports.items c.report_of_closed.result.1.items c.of-slots.ensures.told c.report_of_closed.ensures.ports
-    (record { known = at.known; none = c.requires.opens; entries = at.entries; image = at.image; bound = at.bound; after = at.after; whole = c.of-slots.ensures.retired; idle = at.fresh.idle })
+    reported g.P.Port.tells true c.args.opening c.attached-run.result.0 c.in-Ok.closed.run c.attached-run.result.1 c.in-Ok.closed.slots c.report_of_closed.result.0 c.args.ports.items c.report_of_closed.result.1.items c.attached-run.ensures.told c.report_of_closed.ensures.ports c.attached-run.ensures.attached
     c.in-Ok.ensures.brought c.in-Ok.ensures.bench c.report_of_closed.ensures.status c.report_of_closed.ensures.text
