@@ -67,20 +67,9 @@ report_served in_rounds steps m need start now answer text r = subst IsServed (s
 
 -- what is served is not refused
 not_refused : (answer : Status) → IsServed answer → IsRefusal answer → ⊥
-not_refused status.Done served refused = refused
-not_refused status.Usage served refused = served
-not_refused status.BadBundle served refused = served
-not_refused status.NoFit served refused = served
-not_refused status.BadImage served refused = served
-not_refused status.Trapped served refused = refused
-not_refused status.Stuck served refused = refused
-not_refused status.Bound served refused = refused
-not_refused status.ReadFault served refused = served
-not_refused status.WriteFault served refused = served
-not_refused status.NoMemory served refused = served
-not_refused status.TooLong served refused = served
-not_refused status.BadJournal served refused = served
-not_refused status.Idle served refused = refused
+not_refused status.WriteFault served refused = refused
+not_refused status.NoMemory served refused = refused
+not_refused answer served refused = refused served
 
 -- a report is not that of a refusal
 pub report_goes : (in_rounds : Bool) (steps : ℕ) (m : Image) (need : Option ℕ) (start now : List Told) (answer : Status) (text : List ℕ) → IsReport in_rounds steps m need start now answer text → IsRefusal answer → ⊥

@@ -103,17 +103,6 @@ runs_image (task.OfBundle t) = runs_bundle t
 runs_image (task.OfImage t) = true
 runs_image (task.OfJournal t) = false
 
--- the statuses of what is refused before anything runs
-abbrev pub IsRefusal : Status → Type 0
-IsRefusal status.Usage = Unit {0}
-IsRefusal status.BadBundle = Unit {0}
-IsRefusal status.NoFit = Unit {0}
-IsRefusal status.BadImage = Unit {0}
-IsRefusal status.ReadFault = Unit {0}
-IsRefusal status.TooLong = Unit {0}
-IsRefusal status.BadJournal = Unit {0}
-IsRefusal _ = ⊥
-
 -- a run has this many steps at most
 abbrev pub steps_of_bundle : BundleTask → ℕ
 steps_of_bundle (bundle.Run steps order) = steps
@@ -154,3 +143,9 @@ IsServed status.Stuck = Unit {0}
 IsServed status.Bound = Unit {0}
 IsServed status.Idle = Unit {0}
 IsServed _ = ⊥
+
+-- the statuses of what is refused before anything runs: what is not served, but for a failed write and want of memory
+abbrev pub IsRefusal : Status → Type 0
+IsRefusal status.WriteFault = ⊥
+IsRefusal status.NoMemory = ⊥
+IsRefusal answer = IsServed answer → ⊥

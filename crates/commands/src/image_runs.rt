@@ -60,10 +60,10 @@ pub fn report_in_rounds<P: Port + Send>(
 /// The same where each context has a thread of its own.
 pub fn report_in_threads<P: Port + Send, R: Threads + Wait + Sync, G: Gate + Sync>(
     rt: &R,
-    gate: &G,
     alloc: Global,
     opening: Opening,
     ports: Vec<P>,
+    gate: &G,
 ) -> (Result<Reply, NoMemory>, Vec<P>)
     requires opens { opening.run.entries ≡ [] }
     requires few { length ports.items ≤ MOST_PORTS }

@@ -163,6 +163,10 @@ finished : {P : Type 0} (answer : Status) (wanted : Option Job) (o : Outside) (p
 finished answer wanted o ports ports' finishes as_many in_order untouched =
     record { finishes = finishes; complete = completes answer wanted o finishes; as_many = as_many; in_order = in_order; untouched = untouched }
 
+-- a job that the words ask for
+pub for_words : {P : Type 0} (answer : Status) (wanted asked : Option Job) (o : Outside) (ports ports' : List P) → wanted ≡ asked → IsFinish answer wanted o ports ports' → IsFinish answer asked o ports ports'
+for_words answer wanted asked o ports ports' same finish = subst (λ w. IsFinish answer w o ports ports') same finish
+
 -- the very ports that were handed in
 finished_aside : {P : Type 0} (answer : Status) (wanted : Option Job) (o : Outside) (ports : List P) → Finishes answer wanted o → o.ports' ≡ o.ports → IsFinish answer wanted o ports ports
 finished_aside answer wanted o ports finishes same = finished answer wanted o ports ports finishes refl (stay_in_order o.ports o.ports' same) (λ leaves. refl)

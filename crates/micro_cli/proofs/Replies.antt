@@ -1,5 +1,8 @@
 -- From what is said of an input to what a call asks to be written.
-use Rattle.std.proofs.Common.{◌≡◌, ℕ, ◌+◌, ◌<◌, ◌≤◌, subst, List, length, Option, None, Some, refl, inl, inr}
+use Rattle.std.proofs.Common.{◌≡◌, ℕ, ◌+◌, ◌<◌, ◌≤◌, subst, List, length, Option, None, Some, Result, Ok, Err, refl, inl, inr}
+use Rattle.std.specs.Prelude.{IfOk}
+use Rattle.micro_isa.specs.declared.list.NoMemory.{NoMemory}
+use Rattle.commands.specs.declared.task.Reply.{Reply}
 use Rattle.micro_isa.specs.declared.program.Bundle.{Bundle}
 use Rattle.micro_isa.specs.declared.image.Image.{Image}
 use Rattle.micro_kit.specs.Streams.{Gives, IsWhole}
@@ -49,22 +52,26 @@ pub says_of_bytes_fault : (task : ImageTask) (answer : Status) (start now : List
 says_of_bytes_fault task answer start now input text offset kind found unspelled answered told = inl (record { answered = answered; offset = offset; kind = kind; found = found; told = told; unspelled = unspelled })
 
 -- what a task tells of a bundle's text and a journal
-pub says_of_journal : (task : JournalTask) (answer : Status) (bundle_text journal text : List ℕ) (b : Bundle) → Spells bundle_text b → TellsOfJournal task answer b journal text → (FitsJournal task b journal → IsServed answer) → SaysOfParts task answer bundle_text journal text
-says_of_journal task answer bundle_text journal text b spelt tells served = inr (record { bundle = b; spelt = spelt; tells = tells; served = served })
+pub says_of_journal : (task : JournalTask) (result : Result Reply NoMemory) (bundle_text journal : List ℕ) (b : Bundle) → Spells bundle_text b → IfOk result (λ r. TellsOfJournal task r.status b journal r.text.items) → IfOk result (λ r. FitsJournal task b journal → IsServed r.status) → IfOk result (λ r. SaysOfParts task r.status bundle_text journal r.text.items)
+says_of_journal task (Ok r) bundle_text journal b spelt tells served = inr (record { bundle = b; spelt = spelt; tells = tells; served = served })
+says_of_journal task (Err why) bundle_text journal b spelt tells served = tt
 
-pub says_of_bundle_fault : (task : JournalTask) (answer : Status) (bundle_text journal text : List ℕ) (at : At) → text_fault bundle_text ≡ Some at → answer ≡ status.BadBundle → text ≡ bad_bundle_line at → SaysOfParts task answer bundle_text journal text
-says_of_bundle_fault task answer bundle_text journal text at found answered told = inl (record { answered = answered; at = at; found = found; told = told })
+pub says_of_bundle_fault : (task : JournalTask) (result : Result Reply NoMemory) (bundle_text journal : List ℕ) (at : At) → text_fault bundle_text ≡ Some at → IfOk result (λ r. (r.status ≡ status.BadBundle) × (r.text.items ≡ bad_bundle_line at)) → IfOk result (λ r. SaysOfParts task r.status bundle_text journal r.text.items)
+says_of_bundle_fault task (Ok r) bundle_text journal at found told = inl (record { answered = told.0; at = at; found = found; told = told.1 })
+says_of_bundle_fault task (Err why) bundle_text journal at found told = tt
 
 -- the parts of an input, the first of which may be too long
-pub says_of_long_part : (task : JournalTask) (answer : Status) (input text part : List ℕ) → part ≡ bundle_part input → LONGEST_BUNDLE < length part → answer ≡ status.TooLong → text ≡ too_long_line LONGEST_BUNDLE → SaysOfJournal task answer input text
-says_of_long_part task answer input text part is above answered told =
-    inl (record { answered = answered; above = subst (λ l. LONGEST_BUNDLE < length l) is above; told = told })
+pub says_of_long_part : (task : JournalTask) (result : Result Reply NoMemory) (input part : List ℕ) → part ≡ bundle_part input → LONGEST_BUNDLE < length part → IfOk result (λ r. (r.status ≡ status.TooLong) × (r.text.items ≡ too_long_line LONGEST_BUNDLE)) → IfOk result (λ r. SaysOfJournal task r.status input r.text.items)
+says_of_long_part task (Ok r) input part is above told =
+    inl (record { answered = told.0; above = subst (λ l. LONGEST_BUNDLE < length l) is above; told = told.1 })
+says_of_long_part task (Err why) input part is above told = tt
 
-pub says_of_parts : (task : JournalTask) (answer : Status) (input text part journal : List ℕ) → part ≡ bundle_part input → journal ≡ journal_part input → length part ≤ LONGEST_BUNDLE → SaysOfParts task answer part journal text → SaysOfJournal task answer input text
-says_of_parts task answer input text part journal is rest short says = inr (record {
+pub says_of_parts : (task : JournalTask) (result : Result Reply NoMemory) (input part journal : List ℕ) → part ≡ bundle_part input → journal ≡ journal_part input → length part ≤ LONGEST_BUNDLE → IfOk result (λ r. SaysOfParts task r.status part journal r.text.items) → IfOk result (λ r. SaysOfJournal task r.status input r.text.items)
+says_of_parts task (Ok r) input part journal is rest short says = inr (record {
   short = subst (λ l. length l ≤ LONGEST_BUNDLE) is short;
-  says = subst (λ l. SaysOfParts task answer l (journal_part input) text) is (subst (λ l. SaysOfParts task answer part l text) rest says);
+  says = subst (λ l. SaysOfParts task r.status l (journal_part input) r.text.items) is (subst (λ l. SaysOfParts task r.status part l r.text.items) rest says);
 })
+says_of_parts task (Err why) input part journal is rest short says = tt
 
 -- what is said of an input that was read to its end is asked for
 pub asks_of_input : (task : Task) (answer : Status) (left left' : Option (List ℕ)) (start now : List Told) (input text : List ℕ) → IsWhole left input left' (limit_of task) → Says task answer start now input text → AsksOfInput task answer left left' start now text

@@ -17,26 +17,16 @@ use micro_isa::{LONGEST_TEXT, MOST_STEPS, NoMemory};
 use std::alloc::Global;
 
 /// What a task comes to for a whole text.
-#[tactic(auto, using(crate::proofs::Preparing::bundle_comes, crate::proofs::Preparing::text_fault_comes))]
-pub(crate) fn prepare_text(
-    alloc: Global,
-    task: BundleTask,
-    text: &[u8],
-) -> Result<Prepared, NoMemory>
+#[tactic(auto, using(crate::proofs::Preparing::text_fault_comes))]
+pub(crate) fn prepare(alloc: Global, task: BundleTask, text: &[u8]) -> Result<Prepared, NoMemory>
     requires short { length text.now ≤ LONGEST_TEXT }
     requires bounded { steps_of_bundle task ≤ MOST_STEPS }
     ensures comes { IfOk result (ComesTo (SaysBy (OfBundle task) text.now)) }
     ensures aside { runs_bundle task ≡ false → IfOk result IsReply }
 {
     match read_bundle(alloc, text) {
-        Ok(bundle) => match prepare_bundle(alloc, task, &bundle) {
-            Ok(prepared) => Ok(prepared),
-            Err(NoMemory) => Err(NoMemory),
-        },
-        Err(BundleFault::At { line, kind }) => match bad_bundle(alloc, line, kind) {
-            Ok(reply) => Ok(Prepared::Reply(reply)),
-            Err(NoMemory) => Err(NoMemory),
-        },
+        Ok(bundle) => prepare_bundle(alloc, task, &bundle),
+        Err(BundleFault::At { line, kind }) => Ok(Prepared::Reply(bad_bundle(alloc, line, kind)?)),
         Err(BundleFault::NoMemory) => Err(NoMemory),
     }
 }
@@ -45,11 +35,9 @@ pub(crate) fn prepare_text(
 pub(crate) fn bad_bundle(alloc: Global, line: u32, kind: BundleKind) -> Result<Reply, NoMemory>
     ensures { IfOk result (λ r. (r.status ≡ status.BadBundle) × (r.text.items ≡ bad_bundle_line (record { line = line; kind = kind }))) }
 {
-    match bad_bundle_line(alloc, line, kind) {
-        Ok(text) => Ok(Reply {
-            status: Status::BadBundle,
-            text,
-        }),
-        Err(NoMemory) => Err(NoMemory),
-    }
+    let text = bad_bundle_line(alloc, line, kind)?;
+    Ok(Reply {
+        status: Status::BadBundle,
+        text,
+    })
 }

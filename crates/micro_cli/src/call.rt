@@ -1,11 +1,11 @@
-ghost use Rattle.std.specs.Prelude.{◌≤◌, IfSome, false, length, map, string_bytes, true};
-ghost use Rattle.micro_cli.specs.Words.{job_asked, IsBoundedJob, JobRunsBy};
+ghost use Rattle.std.specs.Prelude.{◌≤◌, false, length, map, string_bytes};
+ghost use Rattle.micro_cli.specs.Words.{job_asked};
 ghost use Rattle.micro_cli.specs.Calls.{IsFinish, outside};
 
 use crate::command::prepare_job;
 use crate::telling::{status_of_silence, tell, tell_report};
 use crate::words::job_asked;
-use commands::{Job, Prepared, Status, report_in_rounds};
+use commands::{Prepared, Status, report_in_rounds};
 use micro_isa::{MOST_PORTS, NoMemory};
 use micro_kit::{Sink, Source};
 use ports::Port;
@@ -35,36 +35,24 @@ pub fn plain_call<I: Source, O: Sink>(
     ensures { IsFinish result.status (job_asked false (map string_bytes words.now)) (outside I.left I.faults O.wrote O.faults ⟦<Box<dyn Port + Send> as Port>⟧.tells input.old input.new output.old output.new ports.items result.ports.items) ports.items result.ports.items }
 {
     match job_asked(alloc, words, false) {
-        Ok(wanted) => {
-            let (status, ports) = call_in_rounds(alloc, wanted, input, output, ports);
-            Finish { status, ports }
-        }
+        Ok(wanted) => match prepare_job(alloc, wanted, input) {
+            Ok(Prepared::Reply(reply)) => Finish {
+                status: tell(output, &reply),
+                ports,
+            },
+            Ok(Prepared::Run(opening)) => {
+                let (report, ports) = report_in_rounds(alloc, opening, ports);
+                let status = tell_report(output, report);
+                Finish { status, ports }
+            }
+            Err(why) => Finish {
+                status: status_of_silence(why),
+                ports,
+            },
+        },
         Err(NoMemory) => Finish {
             status: Status::NoMemory,
             ports,
         },
-    }
-}
-
-/// The same for the job that the words ask for.
-pub(crate) fn call_in_rounds<I: Source, O: Sink, P: Port + Send>(
-    alloc: Global,
-    wanted: Option<Job>,
-    input: &mut I,
-    output: &mut O,
-    ports: Vec<P>,
-) -> (Status, Vec<P>)
-    requires bounded { IfSome wanted IsBoundedJob }
-    requires order { IfSome wanted (JobRunsBy true) }
-    requires few { length ports.items ≤ MOST_PORTS }
-    ensures { IsFinish result.0 wanted (outside I.left I.faults O.wrote O.faults P.tells input.old input.new output.old output.new ports.items result.1.items) ports.items result.1.items }
-{
-    match prepare_job(alloc, wanted, input) {
-        Ok(Prepared::Reply(reply)) => (tell(output, &reply), ports),
-        Ok(Prepared::Run(opening)) => {
-            let (report, ports) = report_in_rounds(alloc, opening, ports);
-            (tell_report(output, report), ports)
-        }
-        Err(why) => (status_of_silence(why), ports),
     }
 }

@@ -4,6 +4,7 @@ ghost use Rattle.std.specs.Prelude.{◌≡◌, ◌≤◌, ◌+◌, IfOk, IfErr, 
 ghost use Rattle.commands.specs.Openings.{ComesTo, IsReply};
 ghost use Rattle.commands.specs.Tells.{IsBounded, runs_image};
 ghost use Rattle.commands.specs.declared.status.Status.TheVariants as status;
+ghost use Rattle.micro_cli.specs.declared.command.Silence.TheVariants as silence;
 ghost use Rattle.micro_cli.specs.Answers.{TookAtMost, most_read};
 ghost use Rattle.micro_cli.specs.Calls.{IsAside};
 ghost use Rattle.micro_cli.specs.Words.{IsBoundedJob};
@@ -11,10 +12,9 @@ ghost use Rattle.micro_cli.specs.Preparing.{SaysBy, AsksOfInputBy, AsksBy};
 ghost use Rattle.micro_cli.specs.Silences.{FailsToRead, IsSilent};
 ghost use Rattle.micro_cli.specs.Lines.{usage_line, limit_of};
 
-use crate::bundle_replies::prepare_text;
-use crate::image_replies::prepare_bytes;
 use crate::journal_replies::reply_to_journal;
 use crate::lines::{limit_of, too_long, usage_line};
+use crate::{bundle_replies, image_replies};
 use commands::{Job, Prepared, Reply, Status, Task, perform_soak};
 use micro_isa::{LONGEST_IMAGE, NoMemory};
 use micro_kit::{ReadFault, Source, read_all};
@@ -25,6 +25,14 @@ use std::alloc::Global;
 pub(crate) enum Silence {
     ReadFault,
     NoMemory,
+}
+
+impl From<NoMemory> for Silence {
+    ghost from_gives = { λ _ why. why ≡ silence.NoMemory };
+
+    fn from(_want: NoMemory) -> Silence {
+        Silence::NoMemory
+    }
 }
 
 /// What the job that the words ask for comes to for the input.
@@ -41,31 +49,20 @@ pub(crate) fn prepare_job<I: Source>(
     ensures taken { TookAtMost (most_read wanted) (I.left input.old) (I.left input.new) }
 {
     match wanted {
-        Some(Job::OfInput(task)) => match prepare_input(alloc, task, input) {
-            Ok(prepared) => Ok(prepared),
-            Err(why) => Err(why),
-        },
-        Some(Job::Soak { number }) => match perform_soak(alloc, number) {
-            Ok(reply) => Ok(Prepared::Reply(reply)),
-            Err(NoMemory) => Err(Silence::NoMemory),
-        },
-        None => match usage(alloc) {
-            Ok(reply) => Ok(Prepared::Reply(reply)),
-            Err(NoMemory) => Err(Silence::NoMemory),
-        },
+        Some(Job::OfInput(task)) => prepare_input(alloc, task, input),
+        Some(Job::Soak { number }) => Ok(Prepared::Reply(perform_soak(alloc, number)?)),
+        None => Ok(Prepared::Reply(usage(alloc)?)),
     }
 }
 
 fn usage(alloc: Global) -> Result<Reply, NoMemory>
     ensures { IfOk result (λ r. (r.status ≡ status.Usage) × (r.text.items ≡ usage_line)) }
 {
-    match usage_line(alloc) {
-        Ok(text) => Ok(Reply {
-            status: Status::Usage,
-            text,
-        }),
-        Err(NoMemory) => Err(NoMemory),
-    }
+    let text = usage_line(alloc)?;
+    Ok(Reply {
+        status: Status::Usage,
+        text,
+    })
 }
 
 /// Reads the input to its end, for what the task comes to.
@@ -79,15 +76,9 @@ fn prepare_input<I: Source>(alloc: Global, task: Task, input: &mut I) -> Result<
 {
     let limit = limit_of(task);
     match read_all(alloc, input, limit) {
-        Ok(bytes) => match prepare_task(alloc, task, bytes) {
-            Ok(prepared) => Ok(prepared),
-            Err(NoMemory) => Err(Silence::NoMemory),
-        },
+        Ok(bytes) => Ok(prepare_task(alloc, task, bytes)?),
         Err(ReadFault::Failed) => Err(Silence::ReadFault),
-        Err(ReadFault::TooLong) => match too_long(alloc, limit) {
-            Ok(reply) => Ok(Prepared::Reply(reply)),
-            Err(NoMemory) => Err(Silence::NoMemory),
-        },
+        Err(ReadFault::TooLong) => Ok(Prepared::Reply(too_long(alloc, limit)?)),
         Err(ReadFault::NoMemory) => Err(Silence::NoMemory),
     }
 }
@@ -101,11 +92,8 @@ fn prepare_task(alloc: Global, task: Task, bytes: Vec<u8>) -> Result<Prepared, N
     ensures aside { runs_image task ≡ false → IfOk result IsReply }
 {
     match task {
-        Task::OfBundle(task) => prepare_text(alloc, task, &bytes),
-        Task::OfImage(task) => prepare_bytes(alloc, task, bytes),
-        Task::OfJournal(task) => match reply_to_journal(alloc, task, &bytes) {
-            Ok(reply) => Ok(Prepared::Reply(reply)),
-            Err(NoMemory) => Err(NoMemory),
-        },
+        Task::OfBundle(task) => bundle_replies::prepare(alloc, task, &bytes),
+        Task::OfImage(task) => image_replies::prepare(alloc, task, bytes),
+        Task::OfJournal(task) => Ok(Prepared::Reply(reply_to_journal(alloc, task, &bytes)?)),
     }
 }

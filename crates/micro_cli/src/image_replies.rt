@@ -18,25 +18,17 @@ use micro_isa::{Image, LONGEST_IMAGE, MOST_STEPS, NoMemory};
 use std::alloc::Global;
 
 /// What a task comes to for the whole bytes of an image.
-#[tactic(auto, using(crate::proofs::Preparing::image_comes, crate::proofs::Preparing::bytes_fault_comes))]
-pub(crate) fn prepare_bytes(
-    alloc: Global,
-    task: ImageTask,
-    bytes: Vec<u8>,
-) -> Result<Prepared, NoMemory>
+#[tactic(auto, using(crate::proofs::Preparing::bytes_fault_comes))]
+pub(crate) fn prepare(alloc: Global, task: ImageTask, bytes: Vec<u8>) -> Result<Prepared, NoMemory>
     requires short { length bytes.items ≤ LONGEST_IMAGE }
     requires bounded { steps_of_image task ≤ MOST_STEPS }
     ensures comes { IfOk result (ComesTo (SaysBy (OfImage task) bytes.items)) }
 {
     match loaded(alloc, bytes) {
-        Ok(image) => match prepare_image(alloc, task, image) {
-            Ok(opening) => Ok(Prepared::Run(opening)),
-            Err(NoMemory) => Err(NoMemory),
-        },
-        Err(ImageFault::At { offset, kind }) => match bad_image(alloc, offset, kind) {
-            Ok(reply) => Ok(Prepared::Reply(reply)),
-            Err(NoMemory) => Err(NoMemory),
-        },
+        Ok(image) => Ok(Prepared::Run(prepare_image(alloc, task, image)?)),
+        Err(ImageFault::At { offset, kind }) => {
+            Ok(Prepared::Reply(bad_image(alloc, offset, kind)?))
+        }
         Err(ImageFault::NoMemory) => Err(NoMemory),
     }
 }
@@ -54,11 +46,9 @@ fn loaded(alloc: Global, bytes: Vec<u8>) -> Result<Image, ImageFault>
 fn bad_image(alloc: Global, offset: u32, kind: ImageKind) -> Result<Reply, NoMemory>
     ensures { IfOk result (λ r. (r.status ≡ status.BadImage) × (r.text.items ≡ bad_image_line offset kind)) }
 {
-    match bad_image_line(alloc, offset, kind) {
-        Ok(text) => Ok(Reply {
-            status: Status::BadImage,
-            text,
-        }),
-        Err(NoMemory) => Err(NoMemory),
-    }
+    let text = bad_image_line(alloc, offset, kind)?;
+    Ok(Reply {
+        status: Status::BadImage,
+        text,
+    })
 }

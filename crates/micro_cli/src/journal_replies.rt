@@ -29,15 +29,9 @@ pub(crate) fn reply_to_journal(
 {
     let (text, journal) = split_journal(input);
     if LONGEST_BUNDLE < text.len() {
-        match too_long(alloc, LONGEST_BUNDLE) {
-            Ok(reply) => Ok(reply),
-            Err(NoMemory) => Err(NoMemory),
-        }
+        too_long(alloc, LONGEST_BUNDLE)
     } else {
-        match reply_to_parts(alloc, task, text, journal) {
-            Ok(reply) => Ok(reply),
-            Err(NoMemory) => Err(NoMemory),
-        }
+        reply_to_parts(alloc, task, text, journal)
     }
 }
 
@@ -55,14 +49,8 @@ fn reply_to_parts(
     ensures { IfOk result (λ r. SaysOfParts task r.status text.now journal.now r.text.items) }
 {
     match read_bundle(alloc, text) {
-        Ok(bundle) => match perform_on_journal(alloc, task, &bundle, journal) {
-            Ok(reply) => Ok(reply),
-            Err(NoMemory) => Err(NoMemory),
-        },
-        Err(BundleFault::At { line, kind }) => match bad_bundle(alloc, line, kind) {
-            Ok(reply) => Ok(reply),
-            Err(NoMemory) => Err(NoMemory),
-        },
+        Ok(bundle) => perform_on_journal(alloc, task, &bundle, journal),
+        Err(BundleFault::At { line, kind }) => bad_bundle(alloc, line, kind),
         Err(BundleFault::NoMemory) => Err(NoMemory),
     }
 }

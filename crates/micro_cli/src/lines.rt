@@ -37,13 +37,11 @@ pub(crate) fn too_long(alloc: Global, limit: usize) -> Result<Reply, NoMemory>
     requires { limit ≤ LONGEST_IMAGE }
     ensures { IfOk result (λ r. (r.status ≡ status.TooLong) × (r.text.items ≡ too_long_line limit)) }
 {
-    match too_long_line(alloc, limit) {
-        Ok(text) => Ok(Reply {
-            status: Status::TooLong,
-            text,
-        }),
-        Err(NoMemory) => Err(NoMemory),
-    }
+    let text = too_long_line(alloc, limit)?;
+    Ok(Reply {
+        status: Status::TooLong,
+        text,
+    })
 }
 
 fn too_long_line(alloc: Global, limit: usize) -> Result<Vec<u8>, NoMemory>

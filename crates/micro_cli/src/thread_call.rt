@@ -1,12 +1,12 @@
-ghost use Rattle.std.specs.Prelude.{◌≤◌, IfSome, false, length, map, string_bytes, true};
-ghost use Rattle.micro_cli.specs.Words.{job_asked, IsBoundedJob, JobRunsBy};
+ghost use Rattle.std.specs.Prelude.{◌≤◌, IfSome, length, map, string_bytes, true};
+ghost use Rattle.micro_cli.specs.Words.{job_asked, IsBoundedJob};
 ghost use Rattle.micro_cli.specs.Calls.{IsFinish, outside};
 
-use crate::call::{Finish, call_in_rounds};
+use crate::call::Finish;
 use crate::command::prepare_job;
 use crate::telling::{status_of_silence, tell, tell_report};
 use crate::words::{in_threads, job_asked};
-use commands::{Job, Prepared, Status, report_in_threads};
+use commands::{Job, Prepared, Status, report_in_rounds, report_in_threads};
 use micro_isa::{MOST_PORTS, NoMemory};
 use micro_kit::{Gate, Sink, Source};
 use ports::Port;
@@ -54,33 +54,16 @@ fn call_by_order<R: Threads + Wait + Sync, I: Source, O: Sink, P: Port + Send, G
     requires few { length ports.items ≤ MOST_PORTS }
     ensures { IsFinish result.0 wanted (outside I.left I.faults O.wrote O.faults P.tells input.old input.new output.old output.new ports.items result.1.items) ports.items result.1.items }
 {
-    if in_threads(wanted) {
-        call_in_threads(rt, gate, alloc, wanted, input, output, ports)
-    } else {
-        call_in_rounds(alloc, wanted, input, output, ports)
-    }
-}
-
-/// The same for the job that the words ask for, in thread order.
-fn call_in_threads<R: Threads + Wait + Sync, I: Source, O: Sink, P: Port + Send, G: Gate + Sync>(
-    rt: &R,
-    gate: &G,
-    alloc: Global,
-    wanted: Option<Job>,
-    input: &mut I,
-    output: &mut O,
-    ports: Vec<P>,
-) -> (Status, Vec<P>)
-    requires bounded { IfSome wanted IsBoundedJob }
-    requires order { IfSome wanted (JobRunsBy false) }
-    requires few { length ports.items ≤ MOST_PORTS }
-    ensures { IsFinish result.0 wanted (outside I.left I.faults O.wrote O.faults P.tells input.old input.new output.old output.new ports.items result.1.items) ports.items result.1.items }
-{
     match prepare_job(alloc, wanted, input) {
         Ok(Prepared::Reply(reply)) => (tell(output, &reply), ports),
         Ok(Prepared::Run(opening)) => {
-            let (report, ports) = report_in_threads(rt, gate, alloc, opening, ports);
-            (tell_report(output, report), ports)
+            if in_threads(wanted) {
+                let (report, ports) = report_in_threads(rt, alloc, opening, ports, gate);
+                (tell_report(output, report), ports)
+            } else {
+                let (report, ports) = report_in_rounds(alloc, opening, ports);
+                (tell_report(output, report), ports)
+            }
         }
         Err(why) => (status_of_silence(why), ports),
     }
