@@ -22,11 +22,12 @@ use Rattle.point_walk.proofs.Once.{walk_once}
 use Rattle.budget.specs.Costs.{clipped}
 use Rattle.emitted.specs.Words.{glue_of}
 use Rattle.emit.specs.Sized.{with_places}
+use Rattle.allocate.specs.declared.fits.Fits.{Fits}
 use Rattle.allocate.specs.declared.kept.Kept.{Kept}
 use Rattle.allocate.specs.declared.priced.PricedWalk.{PricedWalk}
 use Rattle.allocate.specs.Cells.{IsCell, IsCellOf, all_places}
 use Rattle.allocate.specs.declared.region_costs.RegionCosts.TheVariants.{Exact}
-use Rattle.allocate.specs.Fits.{AreRegionCosts, IsDearer}
+use Rattle.allocate.specs.Fits.{AreAllThere, AreFitsOf, AreRegionCosts, IsDearer}
 use Rattle.allocate.specs.Tables.{Costs, HasRows, IsCellPlan, IsFreeFrom, IsKept, IsKeptBy, IsPriced, IsRegionCost, AreWalkCosts, IsWalkCost, IsWalkKept, lesser_cost}
 use Rattle.allocate.proofs.Still.{whole_no_glue}
 
@@ -77,6 +78,10 @@ module _ (code : List Line) (p r : ℕ) where
         let is : cost ≡ min cost walked = omega arith in
         (region.0, subst (λ n. IsCell code p r n region.0) is (region_cell cost walked region.0 walk.0 out region.1 region.2 walk.1 walk.2 (omega arith)))
   ]
+
+-- the first fits are all fits where so many are there
+pub all_fits : (code : List Line) (fits : Fits) → AreFitsOf code fits → AreAllThere fits → AreFits code fits.division fits.regions
+all_fits code fits are whole = record { one_each = whole; each = are.parts.each }
 
 -- a cell costs its plan's glue
 pub cell_glue : (code : List Line) (p r cost : ℕ) (plan : Plan) → IsClosedCode code → IsCell code p r cost plan → cost ≡ glue_of code plan

@@ -23,7 +23,7 @@ use Rattle.pressure.specs.Regions.{AreRegionsOf, Connected, numbers_in}
 use Rattle.range_colour.specs.declared.fit.Fit.{Fit}
 use Rattle.range_colour.specs.Fits.{least_all, least_private, places_in}
 use Rattle.range_colour.specs.PlacedPlans.{IsFitOf, IsPlacedRow, IsRegionFit}
-use Rattle.range_colour.specs.Regional.{AreFits, OfRegion}
+use Rattle.range_colour.specs.Regional.{AreFirstFits, OfRegion}
 use Rattle.range_colour.proofs.Sizing.{fit_by_same}
 use Rattle.range_colour.proofs.Unique.{fit_once}
 use Rattle.range_colour.proofs.Valid.{first_or_behind, place_is}
@@ -110,7 +110,7 @@ module _ (code : List Line) (i j k : ℕ) (f : ℕ → ℕ) (mine : PlanRow) (pl
               let is : d.0 ≡ k = ap (λ (v : VReg). v.0) (some_is d (record { 0 = k }) register) in
               eqb-false k d.0 other (sym is))
 
-module _ (code : List Line) (closed : IsClosedCode code) (regions : Regions) (are : AreRegionsOf code regions) (fits : List Fit) (are_fits : AreFits code regions fits) where
+module _ (code : List Line) (closed : IsClosedCode code) (regions : Regions) (are : AreRegionsOf code regions) (fits : List Fit) (are_fits : AreFirstFits code regions (length fits) fits) where
   abbrev number : ℕ → ℕ
   number i = slice_index (numbers_in regions) i
 

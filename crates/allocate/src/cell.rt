@@ -7,11 +7,13 @@ ghost use Rattle.liveness.specs.Lives.{IsLiveOf};
 ghost use Rattle.liveness.specs.Pressures.{IsPrivatePressure, IsTotalPressure};
 ghost use Rattle.plan.specs.ValidPlans.{IsValidPlan};
 ghost use Rattle.range_colour.specs.PlacedPlans.{IsRegionFit, IsWholeFit};
-ghost use Rattle.allocate.specs.Fits.{AreFitsOf};
+ghost use Rattle.range_colour.specs.Regional.{AreFits};
+ghost use Rattle.pressure.specs.Regions.{AreRegionsOf};
+ghost use Rattle.allocate.specs.Fits.{AreAllThere, AreFitsOf};
 ghost use Rattle.allocate.specs.Tables.{IsCellPlan, IsPriced, IsWalkPlanned};
 
-use crate::fits::Fits;
-use crate::moving::moves_more;
+use crate::dearer::tell_dearer;
+use crate::fits::{Fits, are_all_there};
 use crate::priced::{PricedWalk, serves};
 use budget::SIZES;
 use emit::glue;
@@ -19,7 +21,8 @@ use liveness::Live;
 use micro_isa::{MOST_FILE, NoMemory, Program};
 use plan::Plan;
 use point_walk::{Route, walk};
-use range_colour::{fit_plan, region_plan};
+use pressure::Regions;
+use range_colour::{Fit, fit_plan, region_fits, region_plan};
 use std::alloc::Global;
 
 /// A plan, and how many glue words it has.
@@ -82,12 +85,91 @@ fn lesser(
     ensures cell { IfOk result (IsCellPlan program.now.code p r) }
     ensures valid { IfOk result (IsValidPlan program.now.code) }
 {
-    let code = program.code.as_slice();
-    let regions = fits.regions.as_slice();
-    if moves_more(code, live, &fits.division, regions, walked.cost) {
+    if tell_dearer(program, live, fits, walked.cost) {
         return Ok(walked.plan);
     }
-    match region_plan(alloc, code, live, &fits.division, regions, p, r)? {
+    if are_all_there(fits) {
+        lesser_there(alloc, program, live, fits, walked, p, r)
+    } else {
+        lesser_anew(alloc, program, live, &fits.division, walked, p, r)
+    }
+}
+
+/// The plan by the fits over all regions, which are there, unless the walk costs less.
+fn lesser_there(
+    alloc: Global,
+    program: &Program,
+    live: &Live,
+    fits: &Fits,
+    walked: Planned,
+    p: u32,
+    r: u32,
+) -> Result<Plan, NoMemory>
+    requires closed { IsClosedCode program.now.code }
+    requires live { IsLiveOf program.now.code live.now }
+    requires fits { AreFitsOf program.now.code fits.now }
+    requires whole { AreAllThere fits.now }
+    requires order { p ≤ r }
+    requires few { r ≤ MOST_FILE }
+    requires out { IsWholeFit program.now.code p r None }
+    requires walk { IsWalkPlanned program.now.code p r walked }
+    ensures cell { IfOk result (IsCellPlan program.now.code p r) }
+    ensures valid { IfOk result (IsValidPlan program.now.code) }
+{
+    let regions = fits.regions.as_slice();
+    lesser_by(alloc, program, live, &fits.division, regions, walked, p, r)
+}
+
+/// The plan by the fits over all regions, which are made, unless the walk costs less.
+fn lesser_anew(
+    alloc: Global,
+    program: &Program,
+    live: &Live,
+    division: &Regions,
+    walked: Planned,
+    p: u32,
+    r: u32,
+) -> Result<Plan, NoMemory>
+    requires closed { IsClosedCode program.now.code }
+    requires live { IsLiveOf program.now.code live.now }
+    requires division { AreRegionsOf program.now.code division.now }
+    requires order { p ≤ r }
+    requires few { r ≤ MOST_FILE }
+    requires out { IsWholeFit program.now.code p r None }
+    requires walk { IsWalkPlanned program.now.code p r walked }
+    ensures cell { IfOk result (IsCellPlan program.now.code p r) }
+    ensures valid { IfOk result (IsValidPlan program.now.code) }
+{
+    let code = program.code.as_slice();
+    let fits = region_fits(alloc, code, live, division)?;
+    let regions = fits.as_slice();
+    lesser_by(alloc, program, live, division, regions, walked, p, r)
+}
+
+/// The plan by these fits over all regions, if there is one, unless the walk costs less.
+fn lesser_by(
+    alloc: Global,
+    program: &Program,
+    live: &Live,
+    division: &Regions,
+    regions: &[Fit],
+    walked: Planned,
+    p: u32,
+    r: u32,
+) -> Result<Plan, NoMemory>
+    requires closed { IsClosedCode program.now.code }
+    requires live { IsLiveOf program.now.code live.now }
+    requires division { AreRegionsOf program.now.code division.now }
+    requires regions { AreFits program.now.code division.now regions.now }
+    requires order { p ≤ r }
+    requires few { r ≤ MOST_FILE }
+    requires out { IsWholeFit program.now.code p r None }
+    requires walk { IsWalkPlanned program.now.code p r walked }
+    ensures cell { IfOk result (IsCellPlan program.now.code p r) }
+    ensures valid { IfOk result (IsValidPlan program.now.code) }
+{
+    let code = program.code.as_slice();
+    match region_plan(alloc, code, live, division, regions, p, r)? {
         Some(plan) => lesser_of(alloc, program, plan, walked, p, r),
         None => Ok(walked.plan),
     }

@@ -5,6 +5,7 @@
 mod allocation;
 mod analysis;
 mod cell;
+mod dearer;
 mod fit;
 mod fits;
 mod kept;

@@ -8,7 +8,7 @@ ghost use Rattle.liveness.specs.Sets.{members};
 ghost use Rattle.plan.specs.declared.row.Plan.{Plan as PlanModel};
 ghost use Rattle.pressure.specs.Regions.{AreRegionsOf, numbers_in};
 ghost use Rattle.range_colour.specs.PlacedPlans.{IsRegionFit};
-ghost use Rattle.range_colour.specs.Regional.{AreFits};
+ghost use Rattle.range_colour.specs.Regional.{AreFirstFits};
 ghost use Rattle.emitted.specs.Edges.{fall_steps, next_at};
 ghost use Rattle.emitted.specs.Words.{glue_of};
 ghost use Rattle.allocate.specs.Fits.{DoDiffer};
@@ -18,8 +18,8 @@ use micro_isa::{Line, VReg, successors};
 use pressure::Regions;
 use range_colour::Fit;
 
-/// Whether each plan by these fits of the regions has more than so many glue words: on so many falls
-/// something moves. It looks no further than it takes to know.
+/// Whether each plan by the fits over the regions has more than so many glue words: on so many falls
+/// something moves between regions whose fits are given. It looks no further than it takes to know.
 pub(crate) fn moves_more(
     code: &[Line],
     live: &Live,
@@ -30,7 +30,7 @@ pub(crate) fn moves_more(
     requires closed { IsClosedCode code.now }
     requires live { IsLiveOf code.now live.now }
     requires regions { AreRegionsOf code.now regions.now }
-    requires fits { AreFits code.now regions.now fits.now }
+    requires fits { AreFirstFits code.now regions.now (length fits.now) fits.now }
     ensures { result ≡ true → (p r : ℕ) (plan : PlanModel) → IsRegionFit code.now p r (Some plan) → words < glue_of code.now plan }
 {
     let mut moved = 0;
@@ -48,7 +48,7 @@ fn moves_at(code: &[Line], live: &Live, regions: &Regions, fits: &[Fit], i: usiz
     requires closed { IsClosedCode code.now }
     requires live { IsLiveOf code.now live.now }
     requires regions { AreRegionsOf code.now regions.now }
-    requires fits { AreFits code.now regions.now fits.now }
+    requires fits { AreFirstFits code.now regions.now (length fits.now) fits.now }
     requires here { i < length code.now }
     ensures moves { (p r : ℕ) (plan : PlanModel) → IsRegionFit code.now p r (Some plan) → result ≤ length (fall_steps code.now plan i) }
     ensures one { result ≤ 1 }

@@ -4,11 +4,11 @@ ghost use Rattle.std.specs.Prelude.{ℕ, ◌≡◌, ◌+◌, ◌<◌, ◌≤◌,
 ghost use Rattle.micro_isa.specs.declared.program.Line.{Line as CodeLine};
 ghost use Rattle.flow_graph.specs.Paths.{IsClosedCode};
 ghost use Rattle.liveness.specs.Lives.{IsLiveOf};
-ghost use Rattle.allocate.specs.Fits.{AreFitsOf, AreRegionCosts, IsDearer, TellsRegions};
+ghost use Rattle.allocate.specs.Fits.{AreAllThere, AreFitsOf, AreRegionCosts, IsDearer, TellsRegions};
 ghost use Rattle.allocate.specs.Tables.{AreAbove, IsAbove, IsRegionCost};
 
+use crate::dearer::is_dearer;
 use crate::fits::Fits;
-use crate::moving::moves_more;
 use budget::{SIZE_COUNT, SIZES};
 use emit::glues;
 use liveness::Live;
@@ -32,17 +32,18 @@ pub(crate) fn price(
     alloc: Global,
     program: &Program,
     live: &Live,
-    fits: &Fits,
+    fits: &mut Fits,
     from: u32,
     walked: &[u32; SIZE_COUNT],
     costs: &mut RegionCosts,
 ) -> Result<(), NoMemory>
     requires closed { IsClosedCode program.now.code }
     requires live { IsLiveOf program.now.code live.now }
-    requires fits { AreFitsOf program.now.code fits.now }
+    requires fits { AreFitsOf program.now.code fits.old }
     requires small { from ≤ MOST_FILE }
-    requires costs { AreRegionCosts program.now.code from fits.now.regions costs.old }
-    ensures costs { AreRegionCosts program.now.code from fits.now.regions costs.new }
+    requires costs { AreRegionCosts program.now.code from fits.old.regions costs.old }
+    ensures fits { OnOk result (AreFitsOf program.now.code fits.new) }
+    ensures costs { OnOk result (AreRegionCosts program.now.code from fits.new.regions costs.new) }
     ensures above { OnOk result (AreAbove costs.new walked.now) }
 {
     let most = greatest(walked);
@@ -81,22 +82,43 @@ fn region_costs(
     alloc: Global,
     program: &Program,
     live: &Live,
-    fits: &Fits,
+    fits: &mut Fits,
     from: u32,
     most: u32,
 ) -> Result<RegionCosts, NoMemory>
     requires closed { IsClosedCode program.now.code }
     requires live { IsLiveOf program.now.code live.now }
+    requires fits { AreFitsOf program.now.code fits.old }
+    requires small { from ≤ MOST_FILE }
+    ensures fits { IfOk result (λ costs. AreFitsOf program.now.code fits.new) }
+    ensures costs { IfOk result (AreRegionCosts program.now.code from fits.new.regions) }
+    ensures above { IfOk result (λ costs. (walked : ℕ) → walked ≤ most → IsAbove costs walked) }
+{
+    let dearer = is_dearer(alloc, program, live, fits, most)?;
+    if dearer {
+        return Ok(RegionCosts::Above(most));
+    }
+    whole_costs(alloc, program, live, fits, from)
+}
+
+/// What the plans by the fits over the regions cost, which are all there.
+fn whole_costs(
+    alloc: Global,
+    program: &Program,
+    live: &Live,
+    fits: &Fits,
+    from: u32,
+) -> Result<RegionCosts, NoMemory>
+    requires closed { IsClosedCode program.now.code }
+    requires live { IsLiveOf program.now.code live.now }
     requires fits { AreFitsOf program.now.code fits.now }
+    requires whole { AreAllThere fits.now }
     requires small { from ≤ MOST_FILE }
     ensures costs { IfOk result (AreRegionCosts program.now.code from fits.now.regions) }
-    ensures above { IfOk result (λ costs. (walked : ℕ) → walked ≤ most → IsAbove costs walked) }
+    ensures above { IfOk result (λ costs. (walked : ℕ) → IsAbove costs walked) }
 {
     let code = program.code.as_slice();
     let regions = fits.regions.as_slice();
-    if moves_more(code, live, &fits.division, regions, most) {
-        return Ok(RegionCosts::Above(most));
-    }
     match region_plan(
         alloc,
         code,

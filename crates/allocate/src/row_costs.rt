@@ -26,7 +26,7 @@ pub(crate) fn row_costs(
     part: Pressure,
     p: u32,
     most: u32,
-    fits: &Fits,
+    fits: &mut Fits,
     costs: &mut RegionCosts,
     walk: &mut Option<PricedWalk>,
 ) -> Result<[u32; SIZE_COUNT], NoMemory>
@@ -36,12 +36,13 @@ pub(crate) fn row_costs(
     requires private { part.private ≤ p }
     requires all { part.all ≤ MOST_FILE }
     requires most { most ≤ MOST_FILE }
-    requires fits { AreFitsOf program.now.code fits.now }
-    requires known { AreRegionCosts program.now.code part.all fits.now.regions costs.old }
+    requires fits { AreFitsOf program.now.code fits.old }
+    requires known { AreRegionCosts program.now.code part.all fits.old.regions costs.old }
     requires walk { IfSome walk.old (IsPriced program.now.code part.all) }
     ensures costs { IfOk result (AreRowCosts program.now.code part p most) }
     ensures small { IfOk result AreSmall }
-    ensures known { AreRegionCosts program.now.code part.all fits.now.regions costs.new }
+    ensures fits { IfOk result (λ row. AreFitsOf program.now.code fits.new) }
+    ensures known { IfOk result (λ row. AreRegionCosts program.now.code part.all fits.new.regions costs.new) }
     ensures walk { IfSome walk.new (IsPriced program.now.code part.all) }
 {
     if are_free(fits, costs, part, p, most) {

@@ -11,6 +11,7 @@ ghost use Rattle.allocate.specs.Items.{AreClosed, IsItem};
 ghost use Rattle.allocate.specs.Needs.{AreLives, ArePressures};
 ghost use Rattle.allocate.specs.Tables.{AreKept, AreRows, AreWalksKept, IsKept, IsKeptBy, IsPriced, IsTabled, IsWalkKept};
 
+use crate::dearer::is_dearer;
 use crate::fits::{Fits, fits_of};
 use crate::kept::Kept;
 use crate::priced::{PricedWalk, is_walk_free};
@@ -222,6 +223,9 @@ fn walked_cells(
     if !free {
         return costly_cells(alloc, program, live, part, most, fits, walk);
     }
+    let mut fits = fits;
+    // Which plan each cell has is told by the fits that are there, or else by all.
+    is_dearer(alloc, program, live, &mut fits, 0)?;
     let cells = free_cells(alloc)?;
     Ok(Cells {
         cells,
@@ -253,7 +257,8 @@ fn costly_cells(
     ensures walk { IfOk result (λ made. IfSome made.walk (IsPriced program.now.code part.all)) }
 {
     let mut walk = made;
-    let cells = rows_of(alloc, program, live, part, most, &fits, &mut walk)?;
+    let mut fits = fits;
+    let cells = rows_of(alloc, program, live, part, most, &mut fits, &mut walk)?;
     Ok(Cells {
         cells,
         kept: Kept::Fitted(fits),
@@ -278,7 +283,7 @@ fn rows_of(
     live: &Live,
     part: Pressure,
     most: u32,
-    fits: &Fits,
+    fits: &mut Fits,
     walk: &mut Option<PricedWalk>,
 ) -> Result<List<u32>, NoMemory>
     requires closed { IsClosedCode program.now.code }
@@ -287,9 +292,10 @@ fn rows_of(
     requires ordered { part.private ≤ part.all }
     requires all { part.all ≤ MOST_FILE }
     requires most { most ≤ MOST_FILE }
-    requires fits { AreFitsOf program.now.code fits.now }
+    requires fits { AreFitsOf program.now.code fits.old }
     requires walk { IfSome walk.old (IsPriced program.now.code part.all) }
     ensures rows { IfOk result (AreRows program.now.code part most SIZES) }
+    ensures fits { IfOk result (λ cells. AreFitsOf program.now.code fits.new) }
     ensures walk { IfSome walk.new (IsPriced program.now.code part.all) }
 {
     let mut cells = List::new(alloc);

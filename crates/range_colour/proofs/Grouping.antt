@@ -11,14 +11,14 @@ use Rattle.std.proofs.Math.Seq.{get_or-append_seam}
 use Rattle.micro_isa.specs.declared.program.Line.{Line}
 use Rattle.flow_graph.specs.Paths.{Edge}
 use Rattle.pressure.specs.declared.region.Regions.{Regions}
-use Rattle.pressure.specs.Regions.{AreRegionsOf, Connected, Joined, count_in, numbers_in}
+use Rattle.pressure.specs.Regions.{AreRegionsOf, Connected, Joined, numbers_in}
 use Rattle.plan.specs.declared.row.PlanRow.{PlanRow}
 use Rattle.plan.specs.ValidPlans.{IsValidPlan}
 use Rattle.range_colour.specs.declared.fit.Fit.{Fit}
 use Rattle.range_colour.specs.Groups.{Among, InUse}
 use Rattle.range_colour.specs.PlacedPlans.{AreRegionFits, AreRowsPlaced, Fits, IsPlacedBy, IsRegionFit, MovesNothing}
 use Rattle.range_colour.specs.Fits.{IsFit, least_all, least_private, places_in}
-use Rattle.range_colour.specs.Regional.{AreFits, AreFitsOver, DoFit, IsGroupedTo, OfRegion, places_at, places_for, places_told}
+use Rattle.range_colour.specs.Regional.{AreFirstFits, AreFits, AreFitsOver, DoFit, IsGroupedTo, OfRegion, places_at, places_for, places_told}
 use Rattle.range_colour.proofs.Planning.{fits_by_test, out_by_test, small_place}
 use Rattle.range_colour.proofs.Sizing.{fit_by_same}
 use Rattle.range_colour.proofs.Valid.{nothing_moves, plan_valid}
@@ -80,23 +80,37 @@ grouped_more numbers count n g groups so_far is less =
       ];
     }
 
+-- the next instruction is of none of these groups
+pub grouped_past : (numbers : List ℕ) (count n : ℕ) (groups : List (List ℕ)) → IsGroupedTo numbers count n groups → count ≤ slice_index numbers n → IsGroupedTo numbers count (n + 1) groups
+grouped_past numbers count n groups so_far past = record {
+  one_each = so_far.one_each;
+  each = λ h i low.
+      let before = so_far.each h i low in (
+        λ some. let p = before.0 some in (let under = p.0 in omega arith, p.1),
+        λ some. elim (cases_eq i n) [
+          | inl last ↦ absurd (let at = subst (λ k. slice_index numbers k ≡ h) last some.1 in omega arith)
+          | inr earlier ↦ before.1 (let under = some.0 in omega arith, some.1)
+        ],
+      );
+}
+
 module _ (code : List Line) (regions : Regions) (are : AreRegionsOf code regions) where
   -- each member is an instruction
-  pub members_inside : (groups : List (List ℕ)) → IsGroupedTo (numbers_in regions) (count_in regions) (length code) groups → All (λ list. All (λ i. i < length code) list) groups
-  members_inside groups grouped g d less at e inside =
-      let low : g < count_in regions = let whole = grouped.one_each in omega arith in
+  pub members_inside : (most : ℕ) (groups : List (List ℕ)) → IsGroupedTo (numbers_in regions) most (length code) groups → All (λ list. All (λ i. i < length code) list) groups
+  members_inside most groups grouped g d less at e inside =
+      let low : g < most = let whole = grouped.one_each in omega arith in
       let list_is : get_or groups g d ≡ get_or groups g [] = read_default groups g d [] less in
       let read : get_or (get_or groups g d) at e ≡ get_or (get_or groups g []) at 0 = get_or_default_zero (get_or groups g d) at e inside ∙ ap (λ (xs : List ℕ). get_or xs at 0) list_is in
       let within : at < length (get_or groups g []) = let long = ap (λ (xs : List ℕ). length xs) list_is in omega arith in
       let under = ((grouped.each g (get_or (get_or groups g []) at 0) low).0 (at, within, refl)).0 in
       omega arith
 
-  pub fits_of : (groups : List (List ℕ)) (fits : List Fit) → IsGroupedTo (numbers_in regions) (count_in regions) (length code) groups → AreFitsOver code groups fits → AreFits code regions fits
-  fits_of groups fits grouped over = record {
+  pub fits_of : (most : ℕ) (groups : List (List ℕ)) (fits : List Fit) → IsGroupedTo (numbers_in regions) most (length code) groups → AreFitsOver code groups fits → AreFirstFits code regions most fits
+  fits_of most groups fits grouped over = record {
     one_each = over.one_each ∙ grouped.one_each;
     each = λ g fit is.
         let inside = slice_get_within fits g fit is in
-        let low : g < count_in regions = let a = over.one_each in let b = grouped.one_each in omega arith in
+        let low : g < most = let a = over.one_each in let b = grouped.one_each in omega arith in
         fit_by_same code (Among (get_or groups g [])) (OfRegion regions g)
         (λ i less. let both = grouped.each g i low in (λ some. (both.0 some).1, λ of. both.1 (less, of)))
         (places_in fit) (least_private fit) (least_all fit) (over.each g fit is);

@@ -21,10 +21,14 @@ pub record AreFitsOver (code : List Line) (groups : List (List ℕ)) (fits : Lis
 abbrev pub OfRegion : Regions → ℕ → ℕ → Type 0
 OfRegion regions g i = slice_index (numbers_in regions) i ≡ g
 
--- for each region its first fit
-pub record AreFits (code : List Line) (regions : Regions) (fits : List Fit) : Type 0 where
-  pub one_each : length fits ≡ count_in regions
+-- for each of the first n regions its first fit
+pub record AreFirstFits (code : List Line) (regions : Regions) (n : ℕ) (fits : List Fit) : Type 0 where
+  pub one_each : length fits ≡ n
   pub each : (g : ℕ) (fit : Fit) → slice_get fits g ≡ Some fit → IsFit code (OfRegion regions g) fit
+
+-- for each region its first fit
+abbrev pub AreFits : List Line → Regions → List Fit → Type 0
+AreFits code regions fits = AreFirstFits code regions (count_in regions) fits
 
 abbrev pub places_told : Option Fit → List ℕ
 places_told None = []

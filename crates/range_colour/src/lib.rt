@@ -9,5 +9,5 @@ mod rows;
 mod whole;
 
 pub use fit::Fit;
-pub use region::{all_fit, by_region, region_fits, region_plan};
+pub use region::{all_fit, by_region, first_region_fits, region_fits, region_plan};
 pub use whole::{first_fit, fit_plan, whole_fit};

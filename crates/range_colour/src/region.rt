@@ -6,7 +6,7 @@ ghost use Rattle.plan.specs.ValidPlans.{IsValidPlan};
 ghost use Rattle.pressure.specs.Regions.{AreRegionsOf, Joined, count_in, numbers_in};
 ghost use Rattle.range_colour.specs.PlacedPlans.{AreRowsPlaced, IsRegionFit, MovesNothing};
 ghost use Rattle.range_colour.specs.Groups.{InUse};
-ghost use Rattle.range_colour.specs.Regional.{AreFits, AreFitsOver, DoFit, IsGroupedTo, places_at, places_for};
+ghost use Rattle.range_colour.specs.Regional.{AreFirstFits, AreFits, AreFitsOver, DoFit, IsGroupedTo, places_at, places_for};
 
 use crate::fit::Fit;
 use crate::rows::row_at;
@@ -83,7 +83,24 @@ pub fn region_fits(
     requires regions { AreRegionsOf code.now regions.now }
     ensures { IfOk result (AreFits code.now regions.now) }
 {
-    let groups = members_of(alloc, regions, code.len())?;
+    first_region_fits(alloc, code, live, regions, regions.count())
+}
+
+/// The first fit over each of the first `most` regions, in the order of their numbers.
+pub fn first_region_fits(
+    alloc: Global,
+    code: &[Line],
+    live: &Live,
+    regions: &Regions,
+    most: u32,
+) -> Result<List<Fit>, NoMemory>
+    requires closed { IsClosedCode code.now }
+    requires live { IsLiveOf code.now live.now }
+    requires regions { AreRegionsOf code.now regions.now }
+    requires there { most ≤ count_in regions.now }
+    ensures { IfOk result (AreFirstFits code.now regions.now most) }
+{
+    let groups = members_of(alloc, regions, code.len(), most)?;
     let Ok(mut meets) = Vec::from_elem(alloc, 0u128, MOST_REGISTERS) else {
         return Err(NoMemory);
     };
@@ -116,16 +133,20 @@ fn fits_over(
     Ok(fits)
 }
 
-/// The instructions of each region.
-fn members_of(alloc: Global, regions: &Regions, n: usize) -> Result<Vec<List<u32>>, NoMemory>
+/// The instructions of each of the first `most` regions.
+fn members_of(
+    alloc: Global,
+    regions: &Regions,
+    n: usize,
+    most: u32,
+) -> Result<Vec<List<u32>>, NoMemory>
     requires few { n ≤ MOST_INSTRUCTIONS }
     requires numbers { length (numbers_in regions.now) ≡ n }
-    requires below { (i : ℕ) → i < n → slice_index (numbers_in regions.now) i < count_in regions.now }
-    ensures { IfOk result (λ groups. IsGroupedTo (numbers_in regions.now) (count_in regions.now) n groups.items) }
+    ensures { IfOk result (λ groups. IsGroupedTo (numbers_in regions.now) most n groups.items) }
 {
-    let mut groups = empty_groups(alloc, regions.count())?;
+    let mut groups = empty_groups(alloc, most)?;
     'places: for i in 0..n {
-        append_to(&mut groups, regions.region_of(i as u32), i as u32)?;
+        append_below(&mut groups, most, regions.region_of(i as u32), i as u32)?;
     }
     Ok(groups)
 }
@@ -142,6 +163,19 @@ fn empty_groups(alloc: Global, count: u32) -> Result<Vec<List<u32>>, NoMemory>
         };
     }
     Ok(groups)
+}
+
+/// Appends an instruction to a group, if that is one of the first `most`.
+fn append_below(groups: &mut Vec<List<u32>>, most: u32, g: u32, i: u32) -> Result<(), NoMemory>
+    requires { vec_len groups.old ≡ most }
+    ensures below { OnOk result (g < most → groups.new.items ≡ slice_set groups.old.items g (slice_index_or groups.old.items g [] ++ i ∷ [])) }
+    ensures above { OnOk result (most ≤ g → groups.new.items ≡ groups.old.items) }
+{
+    if g < most {
+        append_to(groups, g, i)
+    } else {
+        Ok(())
+    }
 }
 
 /// Appends an instruction to a group.

@@ -9,6 +9,7 @@ loop-i-preserved c =
     let row = c.in_ok-row.row in record {
       rows = subst (AreRows code c.args.part c.args.most (c.loop-i.i + 1)) (sym c.in_ok-push_row.ensures.row)
           (row_more code c.args.part c.args.most c.loop-i.i c.loop-i.cells row c.loop-i.invariant.rows c.push_row.ensures.eight c.in_ok-row.ensures.costs c.in_ok-row.ensures.small);
-      known = c.row_costs.ensures.known;
+      fits = c.in_ok-row.ensures.fits;
+      known = c.in_ok-row.ensures.known;
       walk = c.row_costs.ensures.walk;
     }
