@@ -1,17 +1,19 @@
 -- The table of a row, and the registers that have a place in it.
-use Rattle.std.proofs.Common.{◌≡◌, ℕ, ◌<◌, ◌^◌, List, [], Option, Some, None, length, set, Contains, refl, sym, subst, ◌∙◌, ap, ◌⊎◌, inl, inr, arith, bit_and}
+use Rattle.std.proofs.Common.{◌≡◌, ℕ, ◌<◌, ◌^◌, List, Option, Some, None, length, set, Contains, refl, sym, subst, ◌∙◌, ap, ◌⊎◌, inl, inr, arith, bit_and}
 use Rattle.std.specs.Prelude.{bit_or}
 use Rattle.std.specs.Int.{bit_at, bit_not, w128}
 use Rattle.std.proofs.lemmas.Bool.{cases_eq}
 use Rattle.std.proofs.lemmas.List.{length-set, ext_get_or}
+use Rattle.std.proofs.lemmas.Nat.Bits.{bit_at-zero}
+use Rattle.std.proofs.lemmas.Option.{same_Some}
 use Rattle.micro_isa.specs.declared.program.VReg.{VReg}
 use Rattle.flow_graph.specs.Paths.{IsSmall}
 use Rattle.liveness.specs.Sets.{IsSetOf, members}
 use Rattle.liveness.proofs.Sizes.{member_set, set_member, below_width, union, difference}
 use Rattle.point_walk.specs.Walks.{Table, nothing, place_at, put, WishBelow, WishFree, LeastFree, Steps, AreGiven}
 use Rattle.point_walk.specs.Tables.{IsTable}
-use Rattle.point_walk.specs.Keeping.{AreAmong, AreFresh, AreBelow, cleared}
-use Rattle.point_walk.proofs.Slots.{set_there, nothing_has, none_at}
+use Rattle.point_walk.specs.Keeping.{AreAmong, AreApart, AreBelow, AreFull, cleared}
+use Rattle.point_walk.proofs.Slots.{set_here, set_there, nothing_has, none_at}
 use Rattle.point_walk.proofs.Stages.{step_cases, stage_keeps}
 use Rattle.point_walk.proofs.Standing.{cleared_size, cleared_none, cleared_gone, cleared_others, stands_given}
 
@@ -57,6 +59,50 @@ put_among table now held more written write is small low_held low_more among alo
       | inr other ↦ let has = member_set 128 held k (among.among k x (sym (set_there table d.0 k write other) ∙ at)) in set_member 128 (bit_or held more) k has.0 ((all.exact k).1 (inl has.1))
     ]
 
+-- what is held is full, and so is what the next row has besides
+pub put_full : (table now : Table) (held more : ℕ) (written : Option VReg) (write : Option ℕ) → IsTable table → IsSmall written → held < 2 ^ 128 → more < 2 ^ 128 → AreFull table (members 128 held)
+    → ((d : VReg) → written ≡ Some d → (x : ℕ) × (write ≡ Some x)) → IsSetOf (λ k. written ≡ Some (record { 0 = k })) more → now ≡ put written write table → AreFull now (members 128 (bit_or held more))
+put_full table now held more written write is small low_held low_more full writes alone e = subst (λ (t : Table). AreFull t (members 128 (bit_or held more))) (sym e) (record { full = λ k has. by written small writes both k (member_set 128 (bit_or held more) k has) })
+  where
+    both : IsSetOf (λ k. (bit_at held k ≡ 1) ⊎ (written ≡ Some (record { 0 = k }))) (bit_or held more)
+    both = union (λ k. bit_at held k ≡ 1) (λ k. written ≡ Some (record { 0 = k })) held more (bits_of held) alone
+
+    register_is : (d : VReg) (k : ℕ) → Some d ≡ Some (record { 0 = k }) → d.0 ≡ k
+    register_is d k e = ap (λ (v : VReg). v.0) (same_Some d (record { 0 = k }) e)
+
+    by : (w : Option VReg) → IsSmall w → ((d : VReg) → w ≡ Some d → (x : ℕ) × (write ≡ Some x)) → IsSetOf (λ k. (bit_at held k ≡ 1) ⊎ (w ≡ Some (record { 0 = k }))) (bit_or held more)
+        → (k : ℕ) → (k < 128) × (bit_at (bit_or held more) k ≡ 1) → (x : ℕ) × (place_at (put w write table) k ≡ Some x)
+    by None little some all k has = elim ((all.exact k).0 has.1) [
+      | inl old ↦ full.full k (set_member 128 held k has.0 old)
+      | inr new ↦ absurd (cc)
+    ]
+    by (Some d) little some all k has = elim (cases_eq k d.0) [
+      | inl same ↦
+          let at = some d refl in
+          (at.0, subst (λ n. place_at (set table d.0 write) n ≡ Some at.0) (sym same) (set_here table d.0 write (let size = is.size in let low = has.0 in omega arith) ∙ at.1))
+      | inr other ↦ elim ((all.exact k).0 has.1) [
+        | inl old ↦ let at = full.full k (set_member 128 held k has.0 old) in (at.0, set_there table d.0 k write other ∙ at.1)
+        | inr new ↦ absurd (other (sym (register_is d k new)))
+      ]
+    ]
+
+pub none_full : (table : Table) → AreFull table (members 128 0)
+none_full table = record { full = λ k has. absurd (let one = (member_set 128 0 k has).1 in let z = bit_at-zero k in omega arith) }
+
+-- all of the one set are of the other
+pub none_left : (before held : ℕ) → before < 2 ^ 128 → held < 2 ^ 128 → bit_and before (bit_not w128 held) ≡ 0 → (k : ℕ) → Contains (members 128 before) k → Contains (members 128 held) k
+none_left before held small_before small_held none k has =
+    let one = member_set 128 before k has in
+    let both = difference (λ j. bit_at before j ≡ 1) (λ j. bit_at held j ≡ 1) before held small_before small_held (bits_of before) (bits_of held) in
+    elim (cases_eq (bit_at held k) 1) [
+      | inl yet ↦ set_member 128 held k one.0 yet
+      | inr off ↦ absurd (
+          let left = (both.exact k).1 (one.1, off) in
+          let same = ap (λ n. bit_at n k) none in
+          let z = bit_at-zero k in
+          omega arith)
+    ]
+
 -- whatever the rules give is of what is live in
 among_step : (choice : Table → ℕ → Option ℕ → Type 0) (ks : List ℕ) (k : ℕ) (table next : Table) → k < 128 → Contains ks k → (length table ≡ 128) × AreAmong table ks → Steps choice k table next → (length next ≡ 128) × AreAmong next ks
 among_step choice ks k table next low has holds steps = elim (step_cases choice k table next steps) [
@@ -88,10 +134,10 @@ pub record IsRowTable (p : ℕ) (wishes : Table) (before cross : List ℕ) (tabl
   pub among : AreAmong table before
 
 pub row_stands : (p before cross held : ℕ) (wishes table : Table) → before < 2 ^ 128 → held < 2 ^ 128 → IsTable wishes → AreAmong wishes (members 128 held)
-    → ((k : ℕ) → Contains (members 128 cross) k → Contains (members 128 before) k) → AreBelow p wishes (members 128 cross) → AreFresh wishes [] (members 128 before)
+    → ((k : ℕ) → Contains (members 128 cross) k → Contains (members 128 before) k) → AreBelow p wishes (members 128 cross) → AreFull wishes (members 128 before) → AreApart wishes (members 128 before)
     → table ≡ cleared wishes (members 128 (bit_and held (bit_not w128 before))) → IsRowTable p wishes (members 128 before) (members 128 cross) table
-row_stands p before cross held wishes table small_before small_held is among within below fresh e = subst (IsRowTable p wishes (members 128 before) (members 128 cross)) (sym e) (record {
-  given = stands_given p wishes (members 128 before) (members 128 cross) is low within fresh below now (cleared_size dead wishes ∙ is.size) kept gone either;
+row_stands p before cross held wishes table small_before small_held is among within below full apart e = subst (IsRowTable p wishes (members 128 before) (members 128 cross)) (sym e) (record {
+  given = stands_given p wishes (members 128 before) (members 128 cross) is low within full apart below now (cleared_size dead wishes ∙ is.size) kept gone either;
   is = record { size = cleared_size dead wishes ∙ is.size; low = λ k x at. is.low k x (sym (kept k (live k x at)) ∙ at) };
   among = record { among = live };
 })

@@ -21,7 +21,7 @@ use Rattle.flow_graph.specs.Paths.{IsSmall}
 use Rattle.liveness.specs.Sets.{IsSetOf}
 use Rattle.liveness.proofs.Sizes.{union}
 use Rattle.plan.proofs.Entries.{here, there, member_cases}
-use Rattle.point_walk.specs.Walks.{Table, place_at, nothing, written_in, put, IsLeastFree, WishBelow, WishFree, StepsFrom, Steps}
+use Rattle.point_walk.specs.Walks.{Table, place_at, nothing, written_in, put, IsLeastFree, IsPlaceFor, IsWritePlace, WishBelow, WishFree, StepsFrom, Steps}
 use Rattle.point_walk.specs.Tables.{IsTable, IsTaken, IsBelow, IsUntaken}
 
 pub untaken_is : (n k : ℕ) → bit_and (n / 2 ^ k) 1 ≡ bit_at n k
@@ -268,3 +268,12 @@ places_more k set more rest registers table before is x =
 pub left_as : (f g : Bool) (w v : Option VReg) (write : Option ℕ) (table left : Table) → f ≡ g → w ≡ v → left ≡ (if f then put w write table else nothing)
     → left ≡ (if g then put v write table else nothing)
 left_as f g w v write table left falls written e = e ∙ (λ j. if falls j then put (written j) write table else nothing)
+
+-- what is written has a place
+pub write_some : (stay : List ℕ) (table : Table) (written : Option VReg) (write : Option ℕ) (d : VReg) → written ≡ Some d → IsWritePlace stay table written write → (x : ℕ) × (write ≡ Some x)
+write_some stay table None write d e place = absurd (cc)
+write_some stay table (Some v) write d e place = by (place_at table v.0) place
+  where
+    by : (o : Option ℕ) → IsPlaceFor stay table o write → (x : ℕ) × (write ≡ Some x)
+    by (Some x) is = (x, is)
+    by None is = (is.0, is.1)

@@ -14,6 +14,7 @@ use Rattle.liveness.specs.Pressures.{HasRoom}
 use Rattle.liveness.proofs.Steps.{crosses_live}
 use Rattle.plan.proofs.Entries.{here, there, no_member, member_cases}
 use Rattle.point_walk.specs.Walks.{Table, nothing, place_at, IsLeastFree, WishBelow, WishFree, LeastFree, StepsFrom, Steps, Stage, AreGiven}
+use Rattle.point_walk.specs.Keeping.{AreWishes}
 use Rattle.point_walk.proofs.Slots.{set_here, set_there, room, nothing_has, nothing_is_table}
 
 -- a rising list has as many elements as what it lists
@@ -107,11 +108,6 @@ pub record IsPartial (code : List Line) (p r i : ℕ) (table : Table) : Type 0 w
   pub live : (k x : ℕ) → place_at table k ≡ Some x → LiveIn code i k
   pub low : (k x : ℕ) → place_at table k ≡ Some x → x < r
   pub private : (k x : ℕ) → Crosses code i k → place_at table k ≡ Some x → x < p
-
--- wishes for row i: of the registers that are live in no two have one place
-pub record AreWishes (code : List Line) (r i : ℕ) (wishes : Table) : Type 0 where
-  pub low : (k x : ℕ) → place_at wishes k ≡ Some x → x < r
-  pub apart : (k l x : ℕ) → LiveIn code i k → LiveIn code i l → place_at wishes k ≡ Some x → place_at wishes l ≡ Some x → k ≡ l
 
 set_cases : (table : Table) (k j x : ℕ) (o : Option ℕ) → k < length table → place_at (set table k o) j ≡ Some x → ((j ≡ k) × (o ≡ Some x)) ⊎ (place_at table j ≡ Some x)
 set_cases table k j x o inside at = elim (cases_eq j k) [

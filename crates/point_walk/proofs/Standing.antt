@@ -1,65 +1,12 @@
 -- Where each register can keep its place, the row before's table without the others is what the four rules give.
-use Rattle.std.proofs.Common.{◌≡◌, ℕ, ◌<◌, List, [], ◌∷◌, true, Option, Some, None, length, set, Contains, refl, sym, subst, ◌∙◌, ap, ◌⊎◌, inl, inr, arith}
-use Rattle.std.specs.Prelude.{is_some, bit_or}
+use Rattle.std.proofs.Common.{◌≡◌, ℕ, ◌<◌, List, [], ◌∷◌, Option, Some, None, length, set, Contains, refl, sym, subst, ◌∙◌, ◌⊎◌, inl, inr, arith}
 use Rattle.std.proofs.lemmas.Bool.{cases_eq}
 use Rattle.std.proofs.lemmas.List.{length-set, ext_get_or}
-use Rattle.std.proofs.lemmas.Option.{same_Some}
-use Rattle.liveness.specs.Sets.{IsSetOf}
-use Rattle.liveness.proofs.Sizes.{union}
 use Rattle.plan.proofs.Entries.{here, there, no_member, member_cases}
 use Rattle.point_walk.specs.Walks.{Table, nothing, place_at, WishBelow, WishFree, LeastFree, StepsFrom, Stage, AreGiven}
-use Rattle.point_walk.specs.Tables.{IsTable, IsUntaken}
-use Rattle.point_walk.specs.Keeping.{AreFresh, AreBelow, cleared}
+use Rattle.point_walk.specs.Tables.{IsTable}
+use Rattle.point_walk.specs.Keeping.{AreApart, AreBelow, AreFull, cleared}
 use Rattle.point_walk.proofs.Slots.{set_here, set_there, nothing_has}
-
--- fresh places
-
-pub fresh_has : (table : Table) (seen ks : List ℕ) (k : ℕ) → AreFresh table seen ks → Contains ks k → (x : ℕ) × (place_at table k ≡ Some x)
-fresh_has table seen [] k fresh has = absurd (no_member k has)
-fresh_has table seen (j ∷ ks) k fresh has = elim (member_cases j k ks has) [
-  | inl same ↦ (fresh.0, subst (λ n. place_at table n ≡ Some fresh.0) same fresh.1)
-  | inr later ↦ fresh_has table (fresh.0 ∷ seen) ks k fresh.3 later
-]
-
-fresh_unseen : (table : Table) (seen ks : List ℕ) (k x : ℕ) → AreFresh table seen ks → Contains ks k → place_at table k ≡ Some x → Contains seen x → ⊥
-fresh_unseen table seen [] k x fresh has at old = no_member k has
-fresh_unseen table seen (j ∷ ks) k x fresh has at old = elim (member_cases j k ks has) [
-  | inl same ↦ fresh.2 (subst (λ y. Contains seen y) (same_Some x fresh.0 (sym at ∙ subst (λ n. place_at table n ≡ Some fresh.0) same fresh.1)) old)
-  | inr later ↦ fresh_unseen table (fresh.0 ∷ seen) ks k x fresh.3 later at (there fresh.0 x seen old)
-]
-
-pub fresh_apart : (table : Table) (seen ks : List ℕ) (k l x : ℕ) → AreFresh table seen ks → Contains ks k → Contains ks l → place_at table k ≡ Some x → place_at table l ≡ Some x → k ≡ l
-fresh_apart table seen [] k l x fresh has_k has_l at_k at_l = absurd (no_member k has_k)
-fresh_apart table seen (j ∷ ks) k l x fresh has_k has_l at_k at_l = elim (member_cases j k ks has_k) [
-  | inl same_k ↦ elim (member_cases j l ks has_l) [
-    | inl same_l ↦ sym same_k ∙ same_l
-    | inr later_l ↦ absurd (fresh_unseen table (fresh.0 ∷ seen) ks l x fresh.3 later_l at_l (first k same_k at_k))
-  ]
-  | inr later_k ↦ elim (member_cases j l ks has_l) [
-    | inl same_l ↦ absurd (fresh_unseen table (fresh.0 ∷ seen) ks k x fresh.3 later_k at_k (first l same_l at_l))
-    | inr later_l ↦ fresh_apart table (fresh.0 ∷ seen) ks k l x fresh.3 later_k later_l at_k at_l
-  ]
-]
-  where
-    first : (n : ℕ) → j ≡ n → place_at table n ≡ Some x → Contains (fresh.0 ∷ seen) x
-    first n same at = subst (λ y. Contains (fresh.0 ∷ seen) y) (same_Some fresh.0 x (sym (subst (λ m. place_at table m ≡ Some fresh.0) same fresh.1) ∙ at)) (here fresh.0 seen)
-
--- one more register has a place that was not seen
-pub fresh_next : (table : Table) (k seen more : ℕ) (rest all : List ℕ) (o : Option ℕ) → is_some o ≡ true → IsUntaken seen (place_at table k) o → IsSetOf (λ x. o ≡ Some x) more
-    → ((places : List ℕ) × IsSetOf (Contains places) seen × (AreFresh table places (k ∷ rest) → AreFresh table [] all))
-    → (places : List ℕ) × IsSetOf (Contains places) (bit_or seen more) × (AreFresh table places rest → AreFresh table [] all)
-fresh_next table k seen more rest all None some chosen alone before = absurd (cc)
-fresh_next table k seen more rest all (Some x) some chosen alone before = (
-  x ∷ before.0,
-  record {
-    exact = λ y.
-        let both = (union (Contains before.0) (λ z. Some x ≡ Some z) seen more before.1 alone).exact y in (
-          λ one. elim (both.0 one) [ inl old ↦ there x y before.0 old | inr new ↦ subst (λ z. Contains (x ∷ before.0) z) (same_Some x y new) (here x before.0) ],
-          λ has. elim (member_cases x y before.0 has) [ inl same ↦ both.1 (inr (ap Some same)) | inr later ↦ both.1 (inl later) ],
-        );
-  },
-  λ fresh. before.2 (x, chosen.0, (λ has. let one = (before.1.exact x).1 has in let off = chosen.1 in absurd (omega arith)), fresh),
-)
 
 below_has : (p : ℕ) (table : Table) (ks : List ℕ) (k : ℕ) → AreBelow p table ks → Contains ks k → (x : ℕ) × (place_at table k ≡ Some x) × (x < p)
 below_has p table [] k below has = absurd (no_member k has)
@@ -159,7 +106,7 @@ cleared_others (k ∷ ks) table j off =
 -- the row's table
 
 module _ (p : ℕ) (wishes : Table) (before cross : List ℕ) (is : IsTable wishes) (low : (k : ℕ) → Contains before k → k < 128)
-    (within : (k : ℕ) → Contains cross k → Contains before k) (fresh : AreFresh wishes [] before) (below : AreBelow p wishes cross) where
+    (within : (k : ℕ) → Contains cross k → Contains before k) (full : AreFull wishes before) (apart : AreApart wishes before) (below : AreBelow p wishes cross) where
   more : (k : ℕ) (table : Table) → Contains before k → HaveWishes wishes before table → HaveWishes wishes before (set table k (place_at wishes k))
   more k table has h = record {
     size = length-set table k (place_at wishes k) ∙ h.size;
@@ -186,11 +133,11 @@ module _ (p : ℕ) (wishes : Table) (before cross : List ℕ) (is : IsTable wish
 
   third : Stage (WishFree wishes) before crossed kept × HaveWishes wishes before kept
   third = stage_wished (WishFree wishes) wishes (HaveWishes wishes before) (Contains before) (λ k table has h none. (
-    (let at = fresh_has wishes [] before k fresh has in subst (λ o. WishFree wishes table k o) (sym at.1) (
+    (let at = full.full k has in subst (λ o. WishFree wishes table k o) (sym at.1) (
       at.1,
       λ j held.
           let of_j = h.have j at.0 held in
-          let same = fresh_apart wishes [] before j k at.0 fresh of_j.0 has of_j.1 at.1 in
+          let same = apart.apart j k at.0 of_j.0 has of_j.1 at.1 in
           let off : None ≡ Some at.0 = sym none ∙ subst (λ n. place_at table n ≡ Some at.0) same held in
           absurd (cc),
     )),
@@ -201,7 +148,7 @@ module _ (p : ℕ) (wishes : Table) (before cross : List ℕ) (is : IsTable wish
   all_crossed = wishes_have wishes cross nothing refl (λ k has. low k (within k has)) (λ k has. let at = below_has p wishes cross k below has in (at.0, at.1))
 
   all_kept : (k : ℕ) → Contains before k → (x : ℕ) × (place_at kept k ≡ Some x)
-  all_kept = wishes_have wishes before crossed first.1.size low (λ k has. fresh_has wishes [] before k fresh has)
+  all_kept = wishes_have wishes before crossed first.1.size low full.full
 
   given : AreGiven p wishes before cross kept
   given = record {

@@ -32,7 +32,8 @@ use Rattle.plan.proofs.Places.{one_written}
 use Rattle.plan.proofs.Checked.{distinct}
 use Rattle.point_walk.specs.Walks.{Table, nothing, place_at, place_or_zero, entries, IsLeastApart, IsPlaceFor, IsWritePlace, written_in, falls_in, put, Follows, Walked, IsWalk}
 use Rattle.point_walk.proofs.Slots.{set_here, set_there, room, nothing_has}
-use Rattle.point_walk.proofs.Stages.{rising_distinct, IsPartial, AreWishes, given_all}
+use Rattle.point_walk.specs.Keeping.{AreWishes}
+use Rattle.point_walk.proofs.Stages.{rising_distinct, IsPartial, given_all}
 
 -- entries of a table
 

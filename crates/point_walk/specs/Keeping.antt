@@ -1,16 +1,34 @@
 -- Rows in which each register keeps its place from the row before.
-use Rattle.std.specs.Prelude.{ℕ, ◌≡◌, ◌<◌, List, [], ◌∷◌, Some, None, slice_set}
+use Rattle.std.specs.Prelude.{ℕ, ◌≡◌, ◌<◌, ◌≤◌, List, [], ◌∷◌, Some, None, slice_set}
 use Rattle.std.specs.List.{Contains}
+use Rattle.micro_isa.specs.declared.program.Line.{Line}
+use Rattle.liveness.specs.Liveness.{LiveIn}
+use Rattle.liveness.specs.Pressures.{HasRoom}
 use Rattle.point_walk.specs.Walks.{Table, place_at}
 
 -- every register that has a place is of the list
 pub record AreAmong (table : Table) (ks : List ℕ) : Type 0 where
   pub among : (k x : ℕ) → place_at table k ≡ Some x → Contains ks k
 
--- the registers of the list have places, no two the same, and none that was seen before
-abbrev pub AreFresh : Table → List ℕ → List ℕ → Type 0
-AreFresh table seen [] = Unit {0}
-AreFresh table seen (k ∷ ks) = (x : ℕ) × (place_at table k ≡ Some x) × (Contains seen x → ⊥) × AreFresh table (x ∷ seen) ks
+-- every register of the list has a place
+pub record AreFull (table : Table) (ks : List ℕ) : Type 0 where
+  pub full : (k : ℕ) → Contains ks k → (x : ℕ) × (place_at table k ≡ Some x)
+
+-- no two registers of the list have one place
+pub record AreApart (table : Table) (ks : List ℕ) : Type 0 where
+  pub apart : (k l x : ℕ) → Contains ks k → Contains ks l → place_at table k ≡ Some x → place_at table l ≡ Some x → k ≡ l
+
+-- wishes for row i: of the registers that are live in no two have one place
+pub record AreWishes (code : List Line) (r i : ℕ) (wishes : Table) : Type 0 where
+  pub low : (k x : ℕ) → place_at wishes k ≡ Some x → x < r
+  pub apart : (k l x : ℕ) → LiveIn code i k → LiveIn code i l → place_at wishes k ≡ Some x → place_at wishes l ≡ Some x → k ≡ l
+
+-- such wishes, where each row has room
+pub record HasWishes (code : List Line) (p i : ℕ) (wishes : Table) : Type 0 where
+  pub r : ℕ
+  pub order : p ≤ r
+  pub room : HasRoom code p r
+  pub are : AreWishes code r i wishes
 
 -- the registers of the list have places below p
 abbrev pub AreBelow : ℕ → Table → List ℕ → Type 0

@@ -56,7 +56,7 @@ pub fn give_wish_free(
     }
 }
 
-pub fn if_untaken(wish: Option<u8>, taken: u128) -> Option<u8>
+fn if_untaken(wish: Option<u8>, taken: u128) -> Option<u8>
     requires { (x : ℕ) → wish ≡ Some x → x < MOST_FILE }
     ensures { IsUntaken taken wish result }
 {

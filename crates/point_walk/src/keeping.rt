@@ -1,19 +1,24 @@
-ghost use Rattle.std.specs.Prelude.{ℕ, ◌≡◌, ◌<◌, true, Some, []};
+ghost use Rattle.std.specs.Prelude.{ℕ, ◌≡◌, ◌<◌, true, Some};
+ghost use Rattle.std.specs.List.{Contains};
 ghost use Rattle.liveness.specs.Sets.{members};
 ghost use Rattle.point_walk.specs.Tables.{IsTable};
-ghost use Rattle.point_walk.specs.Keeping.{AreFresh, AreBelow, AreLow, cleared};
+ghost use Rattle.point_walk.specs.Keeping.{AreBelow, AreLow, cleared};
 
-use crate::giving::{if_below, if_untaken, place_set};
+use crate::giving::if_below;
 use liveness::take_least;
 
-/// Whether each register that is live in can keep its place: each has one, no two the same, and
-/// those that cross have one below `p`.
-pub fn stands(before: u128, cross: u128, p: u32, table: &[Option<u8>]) -> bool
+/// Whether each register that is live in can keep its place: each is held, and those that cross have
+/// one below `p`.
+pub fn stands(before: u128, cross: u128, p: u32, held: u128, table: &[Option<u8>]) -> bool
     requires { IsTable table.now }
     ensures below { result ≡ true → AreBelow p table.now (members 128 cross) }
-    ensures fresh { result ≡ true → AreFresh table.now [] (members 128 before) }
+    ensures held { result ≡ true → (k : ℕ) → Contains (members 128 before) k → Contains (members 128 held) k }
 {
-    are_below(cross, p, table) && are_fresh(before, table)
+    if before & !held == 0 {
+        are_below(cross, p, table)
+    } else {
+        false
+    }
 }
 
 /// Whether each register of the set has a place below `p`.
@@ -52,23 +57,6 @@ fn is_low(place: Option<u8>, p: u32) -> bool
         Some(place) => u32::from(place) < p,
         None => true,
     }
-}
-
-/// Whether each register of the set has a place, and no two the same.
-fn are_fresh(registers: u128, table: &[Option<u8>]) -> bool
-    requires { IsTable table.now }
-    ensures { result ≡ true → AreFresh table.now [] (members 128 registers) }
-{
-    let mut seen = 0;
-    let mut rest = registers;
-    'registers: while let Some(register) = take_least(&mut rest) {
-        let place = if_untaken(table[register.0 as usize], seen);
-        if place.is_none() {
-            return false;
-        }
-        seen |= place_set(place);
-    }
-    true
 }
 
 /// Takes the places of these registers out of the table.

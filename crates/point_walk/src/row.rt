@@ -1,11 +1,12 @@
-ghost use Rattle.std.specs.Prelude.{ℕ, ◌≡◌, ◌<◌, Some, slice_get, IfOk, length, if◌then◌else◌};
+ghost use Rattle.std.specs.Prelude.{ℕ, ◌≡◌, ◌+◌, ◌<◌, Some, slice_get, IfOk, length, if◌then◌else◌};
 ghost use Rattle.std.specs.List.{Contains};
+ghost use Rattle.micro_isa.specs.declared.program.VReg.{VReg as Register};
 ghost use Rattle.flow_graph.specs.Paths.{IsClosedCode, IsSmall};
 ghost use Rattle.liveness.specs.Lives.{IsLiveOf};
 ghost use Rattle.liveness.specs.Sets.{members};
 ghost use Rattle.point_walk.specs.Walks.{written_in, falls_in, IsWritePlace, IsPlaceFor, IsLeastApart, place_at, place_or_zero, nothing, put, entries, Follows, AreGiven};
 ghost use Rattle.point_walk.specs.Tables.{IsTable, ArePlacesOf};
-ghost use Rattle.point_walk.specs.Keeping.{AreAmong};
+ghost use Rattle.point_walk.specs.Keeping.{AreAmong, AreApart, AreFull, HasWishes};
 
 use crate::giving::{least_free, place_set};
 use crate::keeping::{clear, stands};
@@ -31,8 +32,12 @@ pub fn next_row(
     requires here { i < length code.now }
     requires wishes { IsTable table.old }
     requires held { AreAmong table.old (members 128 held.old) }
+    requires full { AreFull table.old (members 128 held.old) }
+    requires apart { HasWishes code.now p i table.old }
     ensures wishes { IsTable table.new }
     ensures held { IfOk result (λ row. AreAmong table.new (members 128 held.new)) }
+    ensures full { IfOk result (λ row. AreFull table.new (members 128 held.new)) }
+    ensures apart { IfOk result (λ row. HasWishes code.now p (i + 1) table.new) }
     ensures follows { IfOk result (λ row. Follows code.now p i table.old row table.new) }
 {
     let before = live.live_in(i as u32);
@@ -53,12 +58,14 @@ pub fn next_row(
 fn settle(before: u128, cross: u128, p: u32, held: u128, table: &mut [Option<u8>])
     requires wishes { IsTable table.old }
     requires held { AreAmong table.old (members 128 held) }
+    requires full { AreFull table.old (members 128 held) }
+    requires apart { AreApart table.old (members 128 before) }
     requires crossing { (k : ℕ) → Contains (members 128 cross) k → Contains (members 128 before) k }
     ensures given { AreGiven p table.old (members 128 before) (members 128 cross) table.new }
     ensures table { IsTable table.new }
     ensures among { AreAmong table.new (members 128 before) }
 {
-    if stands(before, cross, p, table) {
+    if stands(before, cross, p, held, table) {
         clear(held & !before, table);
     } else {
         give_anew(before, cross, p, table);
@@ -190,9 +197,12 @@ fn leave(
 ) -> u128
     requires table { IsTable table.old }
     requires held { AreAmong table.old (members 128 held) }
+    requires full { AreFull table.old (members 128 held) }
     requires small { IsSmall written }
+    requires write { (d : Register) → written ≡ Some d → (x : ℕ) × (write ≡ Some x) }
     ensures left { table.new ≡ (if falls then put written write table.old else nothing) }
     ensures held { AreAmong table.new (members 128 result) }
+    ensures full { AreFull table.new (members 128 result) }
 {
     if falls {
         put_write(table, written, write);

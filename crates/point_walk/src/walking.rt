@@ -1,7 +1,7 @@
 ghost use Rattle.std.specs.Prelude.{ℕ, ◌≡◌, ◌<◌, ◌≤◌, IfOk, length, true};
 ghost use Rattle.flow_graph.specs.Paths.{IsClosedCode};
 ghost use Rattle.liveness.specs.Lives.{IsLiveOf};
-ghost use Rattle.liveness.specs.Pressures.{IsPrivatePressure, IsTotalPressure};
+ghost use Rattle.liveness.specs.Pressures.{HasRoom, IsPrivatePressure, IsTotalPressure};
 ghost use Rattle.plan.specs.declared.row.Plan.{Plan as PlanModel};
 ghost use Rattle.plan.specs.declared.row.PlanRow.{PlanRow as RowModel};
 ghost use Rattle.plan.specs.ValidPlans.{IsValidPlan};
@@ -79,6 +79,7 @@ struct Rows {
 fn walk_rows(alloc: Global, code: &[Line], live: &Live, p: u32) -> Result<Rows, NoMemory>
     requires closed { IsClosedCode code.now }
     requires live { IsLiveOf code.now live.now }
+    requires room { (r : ℕ) × (p ≤ r) × HasRoom code.now p r }
     ensures walked { IfOk result (λ found. AreWalked code.now p found.rows) }
     ensures lasting { IfOk result (λ found. found.lasting ≡ true → (q : ℕ) → p ≤ q → AreWalked code.now q found.rows) }
 {

@@ -14,3 +14,10 @@ returns-in-Ok-clause-valid c =
 
 pub returns-in-Ok-clause-lasting : goal.returns-in-Ok-clause-lasting
 returns-in-Ok-clause-lasting c = λ lasts q r order. record { private = refl; all = refl; rows = rw (← c.as_slice.ensures) (c.in-Ok.ensures.lasting lasts q order) }
+
+pub walk_rows-requires-clause-room : goal.walk_rows-requires-clause-room
+walk_rows-requires-clause-room c = (
+  c.args.r,
+  c.requires.order,
+  rw c.as_slice.ensures (room_of c.args.program.now.code c.args.p c.args.r c.requires.private c.requires.total),
+)
