@@ -25,16 +25,25 @@ common_bit a b small some =
     let both = both_bits a b (trailing_zeros w128 (bit_and a b)) t.1 in
     (trailing_zeros w128 (bit_and a b), both.0, both.1)
 
+-- a register of a set is outside another, or of it too
+pub outside_or_in : (set last j : ℕ) → set < 2 ^ 128 → last < 2 ^ 128 → In set j → In (bit_and set (bit_not w128 last)) j ⊎ In last j
+outside_or_in set last j small small_last one =
+    let inside = below_width set j small one in
+    elim (cases_eq (bit_at last j) 1) [
+      | inl yet ↦ inr yet
+      | inr other ↦ inl (
+          let low = bit_at-lt last j in
+          let flipped = bit_at_not w128 last j small_last inside in
+          let both = bit_at_and set (bit_not w128 last) j in
+          omega arith)
+    ]
+
 -- nothing of a set is outside another
 pub part_of : (set last j : ℕ) → set < 2 ^ 128 → last < 2 ^ 128 → bit_and set (bit_not w128 last) ≡ 0 → In set j → In last j
 part_of set last j small small_last none one =
-    let inside = below_width set j small one in
-    elim (cases_eq (bit_at last j) 1) [
-      | inl yet ↦ yet
-      | inr other ↦ absurd (
-          let low = bit_at-lt last j in
-          let flipped = bit_at_not w128 last j small_last inside in
-          apart_bits set (bit_not w128 last) j none one (omega arith))
+    elim (outside_or_in set last j small small_last one) [
+      | inl other ↦ absurd (let z = bit_at-zero j in let is = subst (λ n. In n j) none other in omega arith)
+      | inr yet ↦ yet
     ]
 
 pub or_bits : (a b j : ℕ) → In (bit_or a b) j ↔ (In a j ⊎ In b j)
@@ -55,6 +64,13 @@ set_bits n k j small =
             λ one. inl (omega arith),
             λ some. elim some [ inl one ↦ omega arith | inr same ↦ absurd (other same) ],
           ))
+    ]
+
+pub alone_bit : (k j : ℕ) → k < 128 → In (1 * 2 ^ k % 2 ^ 128) j ↔ (j ≡ k)
+alone_bit k j small =
+    elim (cases_eq j k) [
+      | inl same ↦ (λ one. same, λ is. subst (In (1 * 2 ^ k % 2 ^ 128)) (sym same) (bit_at_set_same w128 0 k small))
+      | inr other ↦ (λ one. absurd (omega (arith, bit_at_set_other w128 0 k small j other, bit_at-zero j)), λ same. absurd (other same))
     ]
 
 pub below_leading : (set k : ℕ) → set < 2 ^ 128 → In set k → k < 128 - count_leading_zeros 128 set

@@ -1,43 +1,21 @@
 -- What meets in a group of instructions, one instruction more.
-use Rattle.std.proofs.Common.{◌≡◌, ◌==◌, ℕ, ◌+◌, ◌<◌, ◌≤◌, ◌⊎◌, ◌↔◌, Bool, true, false, cond, List, length, get_or, sym, subst, refl, inl, inr, arith, bit_or}
-use Rattle.std.specs.Int.{bit_at}
-use Rattle.std.proofs.lemmas.Bool.{cases_eq, cases_lt, eq-eqb, eqb-true}
+use Rattle.std.proofs.Common.{◌≡◌, ℕ, ◌+◌, ◌<◌, ◌⊎◌, ◌↔◌, List, length, get_or, sym, subst, refl, inl, inr, arith, bit_or}
+use Rattle.std.proofs.lemmas.Bool.{cases_eq}
 use Rattle.std.proofs.lemmas.Nat.Bits.{bit_at-zero}
 use Rattle.micro_isa.specs.declared.program.Line.{Line}
 use Rattle.liveness.specs.Liveness.{LiveIn}
 use Rattle.liveness.specs.Sets.{IsSetOf}
 use Rattle.liveness.specs.Surviving.{IsAfter, Crosses}
-use Rattle.range_colour.specs.Groups.{CrossesIn, InUse, MeetsIn}
-use Rattle.range_colour.specs.Settling.{AmongFirst, In, IsGathered, MeetBy}
+use Rattle.range_colour.specs.Groups.{Among, CrossesIn, InUse, MeetsIn}
+use Rattle.range_colour.specs.Settling.{AmongFirst, HalfMeet, In, IsGathered, MeetBy}
 use Rattle.range_colour.proofs.Bits.{or_bits}
 
--- all of a set were made to meet
-module _ (old new : List ℕ) (those n : ℕ) (done : (k : ℕ) → k < n → get_or new k 0 ≡ cond (bit_at those k == 1) (bit_or (get_or old k 0) those) (get_or old k 0))
-    (rest : (k : ℕ) → n ≤ k → get_or new k 0 ≡ get_or old k 0) (above : (k : ℕ) → In those k → k < n) where
-  by_entry : (j k : ℕ) (t : Bool) → (bit_at those k == 1) ≡ t → get_or new k 0 ≡ cond t (bit_or (get_or old k 0) those) (get_or old k 0)
-      → MeetBy new j k ↔ (MeetBy old j k ⊎ (In those j × In those k))
-  by_entry j k true e is =
-      let both = or_bits (get_or old k 0) those j in
-      let member : In those k = eqb-true _ _ e in
-      rw is (
-        λ one. elim (both.0 one) [ inl before ↦ inl before | inr new ↦ inr (new, member) ],
-        λ some. both.1 (elim some [ inl before ↦ inl before | inr new ↦ inr new.0 ]),
-      )
-  by_entry j k false e is = rw is (
-    λ one. inl one,
-    λ some. elim some [ inl before ↦ before | inr new ↦ absurd (let yet = eq-eqb (bit_at those k) 1 new.1 in cc) ],
-  )
-
-  pub joined : (j k : ℕ) → MeetBy new j k ↔ (MeetBy old j k ⊎ (In those j × In those k))
-  joined j k = elim (cases_lt k n) [
-    | inl less ↦ by_entry j k (bit_at those k == 1) refl (done k less)
-    | inr more ↦
-        let same = rest k (omega arith) in
-        rw same (
-          λ one. inl one,
-          λ some. elim some [ inl before ↦ before | inr new ↦ absurd (let low = above k new.1 in omega arith) ],
-        )
-  ]
+-- the sets of a group of instructions, where what meets is known one way round
+pub record IsHalfGathered (code : List Line) (Group : ℕ → Type 0) (registers crossing : ℕ) (meets : List ℕ) : Type 0 where
+  pub long : length meets ≡ 128
+  pub there : (k : ℕ) → In registers k ↔ MeetsIn code Group k k
+  pub meet : (j k : ℕ) → HalfMeet meets j k ↔ MeetsIn code Group j k
+  pub cross : (k : ℕ) → In crossing k ↔ CrossesIn code Group k
 
 among_more : (list : List ℕ) (at i : ℕ) → AmongFirst list (at + 1) i ↔ (AmongFirst list at i ⊎ (get_or list at 0 ≡ i))
 among_more list at i = (
@@ -51,11 +29,11 @@ among_more list at i = (
   ],
 )
 
-pub none_gathered : (code : List Line) (list meets : List ℕ) → length meets ≡ 128 → ((j k : ℕ) → In (get_or meets k 0) j → ⊥) → IsGathered code (AmongFirst list 0) 0 0 meets
+pub none_gathered : (code : List Line) (list meets : List ℕ) → length meets ≡ 128 → ((j k : ℕ) → In (get_or meets k 0) j → ⊥) → IsHalfGathered code (AmongFirst list 0) 0 0 meets
 none_gathered code list meets long none = record {
   long = long;
   there = λ k. (λ one. absurd (let z = bit_at-zero k in omega arith), λ some. absurd (let less = some.2.1 in omega arith));
-  meet = λ j k. (λ one. absurd (none j k one), λ some. absurd (let less = some.2.1 in omega arith));
+  meet = λ j k. (elim [ inl one ↦ absurd (none j k one) | inr one ↦ absurd (none k j one) ], λ some. absurd (let less = some.2.1 in omega arith));
   cross = λ k. (λ one. absurd (let z = bit_at-zero k in omega arith), λ some. absurd (let less = some.2.1 in omega arith));
 }
 
@@ -87,12 +65,12 @@ module _ (code : List Line) (list : List ℕ) (at : ℕ) (inside : get_or list a
     ],
   )
 
-  pub gathered_more : (registers crossing before after cross : ℕ) (old middle new : List ℕ) → IsGathered code (AmongFirst list at) registers crossing old
+  pub gathered_more : (registers crossing before after cross : ℕ) (old middle new : List ℕ) → IsHalfGathered code (AmongFirst list at) registers crossing old
       → IsSetOf (LiveIn code here) before → IsSetOf (IsAfter code here) after → IsSetOf (Crosses code here) cross
-      → ((j k : ℕ) → MeetBy middle j k ↔ (MeetBy old j k ⊎ (In before j × In before k)))
-      → ((j k : ℕ) → MeetBy new j k ↔ (MeetBy middle j k ⊎ (In after j × In after k)))
+      → ((j k : ℕ) → HalfMeet middle j k ↔ (HalfMeet old j k ⊎ (In before j × In before k)))
+      → ((j k : ℕ) → HalfMeet new j k ↔ (HalfMeet middle j k ⊎ (In after j × In after k)))
       → length new ≡ 128
-      → IsGathered code (AmongFirst list (at + 1)) (bit_or registers (bit_or before after)) (bit_or crossing cross) new
+      → IsHalfGathered code (AmongFirst list (at + 1)) (bit_or registers (bit_or before after)) (bit_or crossing cross) new
   gathered_more registers crossing before after cross old middle new so_far live_in is_after crosses first second long = record {
     long = long;
     there = λ k.
@@ -132,3 +110,24 @@ module _ (code : List Line) (list : List ℕ) (at : ℕ) (inside : get_or list a
           λ some. both.1 (elim (more.0 some) [ inl yet ↦ inl ((so_far.cross k).1 yet) | inr now ↦ inr ((crosses.exact k).1 now) ]),
         );
   }
+
+-- and then both ways round, over all of the list
+pub gathered_whole : (code : List Line) (list : List ℕ) (n registers crossing : ℕ) (half whole : List ℕ) → n ≡ length list → IsHalfGathered code (AmongFirst list n) registers crossing half
+    → ((j k : ℕ) → MeetBy whole j k ↔ (MeetBy half j k ⊎ (In registers j × MeetBy half k j))) → length whole ≡ 128 → IsGathered code (Among list) registers crossing whole
+gathered_whole code list n registers crossing half whole end gathered closed long =
+    let so_far = subst (λ m. IsHalfGathered code (AmongFirst list m) registers crossing half) end gathered in record {
+      long = long;
+      there = so_far.there;
+      meet = λ j k. (
+        λ one. (so_far.meet j k).0 (elim ((closed j k).0 one) [ inl first ↦ inl first | inr second ↦ inr second.1 ]),
+        λ some. (closed j k).1 (elim ((so_far.meet j k).1 some) [
+          | inl first ↦ inl first
+          | inr second ↦ inr ((so_far.there j).1 (some.0, some.1, some.2, by some.0 j k some.3), second)
+        ]),
+      );
+      cross = so_far.cross;
+    }
+  where
+    by : (i j k : ℕ) → InUse code i j k → InUse code i j j
+    by i j k (inl both) = inl (both.0, both.0)
+    by i j k (inr both) = inr (both.0, both.0)

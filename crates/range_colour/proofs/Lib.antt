@@ -1,5 +1,6 @@
 pub mod Bits
 pub mod Settled
+pub mod Telling
 pub mod Gathering
 pub mod Fitting
 pub mod Placing

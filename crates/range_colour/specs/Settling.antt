@@ -13,9 +13,13 @@ In set k = bit_at set k ≡ 1
 abbrev pub MeetBy : List ℕ → ℕ → ℕ → Type 0
 MeetBy meets j k = In (slice_index meets k) j
 
--- any two of the set meet
-abbrev pub AllMeet : List ℕ → ℕ → Type 0
-AllMeet meets set = (j k : ℕ) → In set j → In set k → MeetBy meets j k
+-- registers j and k meet, by the set of one of them
+abbrev pub HalfMeet : List ℕ → ℕ → ℕ → Type 0
+HalfMeet meets j k = MeetBy meets j k ⊎ MeetBy meets k j
+
+-- any two of the set meet, by the set of one of them
+abbrev pub AllHalfMeet : List ℕ → ℕ → Type 0
+AllHalfMeet meets set = (j k : ℕ) → In set j → In set k → HalfMeet meets j k
 
 -- the first n instructions of a list
 abbrev pub AmongFirst : List ℕ → ℕ → ℕ → Type 0

@@ -3,10 +3,10 @@ ghost use Rattle.std.specs.List.{All};
 ghost use Rattle.flow_graph.specs.Paths.{IsClosedCode};
 ghost use Rattle.liveness.specs.Lives.{IsLiveOf};
 ghost use Rattle.range_colour.specs.Groups.{Among};
-ghost use Rattle.range_colour.specs.Settling.{AllMeet, In, IsGathered, MeetBy};
+ghost use Rattle.range_colour.specs.Settling.{AllHalfMeet, HalfMeet, In, IsGathered, MeetBy};
 
-use liveness::{Live, crossing, has, values_after};
-use micro_isa::{Line, MOST_REGISTERS, VReg};
+use liveness::{Live, crossing, take_least, values_after};
+use micro_isa::{Line, MOST_REGISTERS};
 
 /// The registers of a group of instructions, and those that cross in it.
 #[derive(Clone, Copy, Debug)]
@@ -38,6 +38,7 @@ pub fn gather(code: &[Line], live: &Live, members: &[u32], meets: &mut [u128]) -
         group.registers |= before | after;
         group.crossing |= crossing(code, live, i);
     }
+    close(meets, group.registers);
     group
 }
 
@@ -50,29 +51,42 @@ fn clear(meets: &mut [u128])
     }
 }
 
-/// Makes all of the set meet. Those of `last` do already, so there is nothing to do for a part of
-/// it. The set whose registers are known to meet now.
+/// Makes all of the set meet, one way round. Those of `last` do already, so only the others are
+/// told of it. The set whose registers are known to meet now.
 fn join(meets: &mut [u128], last: u128, set: u128) -> u128
     requires long { length meets.old ≡ MOST_REGISTERS }
-    requires last { AllMeet meets.old last }
-    ensures exact { (j k : ℕ) → MeetBy meets.new j k ↔ (MeetBy meets.old j k ⊎ (In set j × In set k)) }
-    ensures last { AllMeet meets.new result }
+    requires last { AllHalfMeet meets.old last }
+    ensures exact { (j k : ℕ) → HalfMeet meets.new j k ↔ (HalfMeet meets.old j k ⊎ (In set j × In set k)) }
+    ensures last { AllHalfMeet meets.new result }
 {
-    if set & !last == 0 {
+    let others = set & !last;
+    if others == 0 {
         return last;
     }
-    join_all(meets, set);
+    tell(meets, others, set);
     set
 }
 
-fn join_all(meets: &mut [u128], set: u128)
+/// Tells each of these registers that it meets all of the set.
+fn tell(meets: &mut [u128], registers: u128, set: u128)
     requires { length meets.old ≡ MOST_REGISTERS }
-    ensures { (j k : ℕ) → MeetBy meets.new j k ↔ (MeetBy meets.old j k ⊎ (In set j × In set k)) }
+    ensures { (j k : ℕ) → MeetBy meets.new j k ↔ (MeetBy meets.old j k ⊎ (In registers k × In set j)) }
 {
-    'registers: for k in 0..width(set) {
-        if has(set, VReg(k as u16)) {
-            meets[k] |= set;
-        }
+    let mut rest = registers;
+    'registers: while let Some(register) = take_least(&mut rest) {
+        meets[register.0 as usize] |= set;
+    }
+}
+
+/// Tells those that these registers were told of about them, so that both know.
+fn close(meets: &mut [u128], registers: u128)
+    requires { length meets.old ≡ MOST_REGISTERS }
+    ensures { (j k : ℕ) → MeetBy meets.new j k ↔ (MeetBy meets.old j k ⊎ (In registers j × MeetBy meets.old k j)) }
+{
+    let mut rest = registers;
+    'registers: while let Some(register) = take_least(&mut rest) {
+        let told = meets[register.0 as usize];
+        tell(meets, told, 1 << register.0);
     }
 }
 

@@ -2,7 +2,7 @@ use Rattle.std.proofs.Common.{◌≡◌, get_or, length, subst, sym, arith}
 use Rattle.std.proofs.lemmas.Nat.Bits.{bit_at-zero}
 use Rattle.liveness.specs.Liveness.{LiveIn}
 use Rattle.liveness.specs.Sets.{IsSetOf}
-use Rattle.range_colour.proofs.Gathering.{gathered_more, none_gathered}
+use Rattle.range_colour.proofs.Gathering.{gathered_more, gathered_whole, none_gathered}
 use Rattle.range_colour.proofs.group.gather.Goals as goal
 
 pub members-init : goal.members-init
@@ -21,3 +21,9 @@ members-preserved c =
           live_in c.values_after-after.ensures c.crossing.ensures c.join-last.ensures.exact c.join-last-in-members.ensures.exact long;
       last = c.join-last-in-members.ensures.last;
     }
+
+pub returns : goal.returns
+returns c =
+    let end : c.members.at ≡ length c.args.members.now = omega arith in
+    let long : length c.close.new.meets ≡ 128 = let yet = c.members.invariant.gathered.long in let kept = c.close.auto.meets in omega arith in
+    gathered_whole c.args.code.now c.args.members.now c.members.at _ _ _ _ end c.members.invariant.gathered c.close.ensures long
