@@ -7,3 +7,4 @@ pub mod Beyond
 pub mod Rooms
 pub mod Standing
 pub mod Rows
+pub mod Seated

@@ -11,8 +11,9 @@ use Rattle.flow_graph.specs.Paths.{IsSmall}
 use Rattle.liveness.specs.Sets.{IsSetOf, members}
 use Rattle.liveness.proofs.Sizes.{member_set, set_member, below_width, union, difference}
 use Rattle.point_walk.specs.Walks.{Table, nothing, place_at, put, WishBelow, WishFree, LeastFree, Steps, AreGiven}
-use Rattle.point_walk.specs.Tables.{IsTable}
-use Rattle.point_walk.specs.Keeping.{AreAmong, AreApart, AreBelow, AreFull, cleared}
+use Rattle.point_walk.specs.declared.seats.Seats.{Seats}
+use Rattle.point_walk.specs.Tables.{IsTable, ArePlacesOf}
+use Rattle.point_walk.specs.Keeping.{AreAmong, AreApart, AreBelow, AreFull, AreSeats, cleared}
 use Rattle.point_walk.proofs.Slots.{set_here, set_there, nothing_has, none_at}
 use Rattle.point_walk.proofs.Stages.{step_cases, stage_keeps}
 use Rattle.point_walk.proofs.Standing.{cleared_size, cleared_none, cleared_gone, cleared_others, stands_given}
@@ -24,7 +25,7 @@ is_member set k small = elim (cases_eq (bit_at set k) 1) [
   | inr off ↦ inr (λ has. off (member_set 128 set k has).1)
 ]
 
-bits_of : (set : ℕ) → IsSetOf (λ k. bit_at set k ≡ 1) set
+pub bits_of : (set : ℕ) → IsSetOf (λ k. bit_at set k ≡ 1) set
 bits_of set = record { exact = λ k. ((λ one. one), (λ one. one)) }
 
 -- all that is held is taken out
@@ -59,6 +60,9 @@ put_among table now held more written write is small low_held low_more among alo
       | inr other ↦ let has = member_set 128 held k (among.among k x (sym (set_there table d.0 k write other) ∙ at)) in set_member 128 (bit_or held more) k has.0 ((all.exact k).1 (inl has.1))
     ]
 
+pub register_is : (d : VReg) (k : ℕ) → Some d ≡ Some (record { 0 = k }) → d.0 ≡ k
+register_is d k e = ap (λ (v : VReg). v.0) (same_Some d (record { 0 = k }) e)
+
 -- what is held is full, and so is what the next row has besides
 pub put_full : (table now : Table) (held more : ℕ) (written : Option VReg) (write : Option ℕ) → IsTable table → IsSmall written → held < 2 ^ 128 → more < 2 ^ 128 → AreFull table (members 128 held)
     → ((d : VReg) → written ≡ Some d → (x : ℕ) × (write ≡ Some x)) → IsSetOf (λ k. written ≡ Some (record { 0 = k })) more → now ≡ put written write table → AreFull now (members 128 (bit_or held more))
@@ -66,9 +70,6 @@ put_full table now held more written write is small low_held low_more full write
   where
     both : IsSetOf (λ k. (bit_at held k ≡ 1) ⊎ (written ≡ Some (record { 0 = k }))) (bit_or held more)
     both = union (λ k. bit_at held k ≡ 1) (λ k. written ≡ Some (record { 0 = k })) held more (bits_of held) alone
-
-    register_is : (d : VReg) (k : ℕ) → Some d ≡ Some (record { 0 = k }) → d.0 ≡ k
-    register_is d k e = ap (λ (v : VReg). v.0) (same_Some d (record { 0 = k }) e)
 
     by : (w : Option VReg) → IsSmall w → ((d : VReg) → w ≡ Some d → (x : ℕ) × (write ≡ Some x)) → IsSetOf (λ k. (bit_at held k ≡ 1) ⊎ (w ≡ Some (record { 0 = k }))) (bit_or held more)
         → (k : ℕ) → (k < 128) × (bit_at (bit_or held more) k ≡ 1) → (x : ℕ) × (place_at (put w write table) k ≡ Some x)
@@ -128,22 +129,36 @@ given_among p wishes before cross table low within given =
     (stage_keeps LeastFree (λ (t : Table). (length t ≡ 128) × AreAmong t before) (Contains before) (step LeastFree) before given.kept table (λ k has. has) three given.fourth).1
 
 -- a row that stands
-pub record IsRowTable (p : ℕ) (wishes : Table) (before cross : List ℕ) (table : Table) : Type 0 where
+pub record IsRowTable (p taken : ℕ) (wishes : Table) (before cross : List ℕ) (table : Table) : Type 0 where
   pub given : AreGiven p wishes before cross table
   pub is : IsTable table
   pub among : AreAmong table before
+  pub places : ArePlacesOf before table taken
 
-pub row_stands : (p before cross held : ℕ) (wishes table : Table) → before < 2 ^ 128 → held < 2 ^ 128 → IsTable wishes → AreAmong wishes (members 128 held)
-    → ((k : ℕ) → Contains (members 128 cross) k → Contains (members 128 before) k) → AreBelow p wishes (members 128 cross) → AreFull wishes (members 128 before) → AreApart wishes (members 128 before)
-    → table ≡ cleared wishes (members 128 (bit_and held (bit_not w128 before))) → IsRowTable p wishes (members 128 before) (members 128 cross) table
-row_stands p before cross held wishes table small_before small_held is among within below full apart e = subst (IsRowTable p wishes (members 128 before) (members 128 cross)) (sym e) (record {
+pub row_stands : (p before cross taken : ℕ) (seats : Seats) (wishes table : Table) → before < 2 ^ 128 → seats.held < 2 ^ 128 → IsTable wishes → AreSeats wishes seats
+    → ((k : ℕ) → Contains (members 128 cross) k → Contains (members 128 before) k) → AreBelow p wishes (members 128 cross)
+    → ((k : ℕ) → Contains (members 128 before) k → Contains (members 128 seats.own) k) → ArePlacesOf (members 128 before) wishes taken
+    → table ≡ cleared wishes (members 128 (bit_and seats.held (bit_not w128 before))) → IsRowTable p taken wishes (members 128 before) (members 128 cross) table
+row_stands p before cross taken seats wishes table small_before small_held is seated within below inside places e = subst (IsRowTable p taken wishes (members 128 before) (members 128 cross)) (sym e) (record {
   given = stands_given p wishes (members 128 before) (members 128 cross) is low within full apart below now (cleared_size dead wishes ∙ is.size) kept gone either;
   is = record { size = cleared_size dead wishes ∙ is.size; low = λ k x at. is.low k x (sym (kept k (live k x at)) ∙ at) };
   among = record { among = live };
+  places = record {
+    bits = λ x. (
+      λ one. let at = (places.bits x).0 one in (at.0, at.1, kept at.0 at.1 ∙ at.2),
+      λ at. (places.bits x).1 (at.0, at.1, sym (kept at.0 at.1) ∙ at.2),
+    );
+  };
 })
   where
+    full : AreFull wishes (members 128 before)
+    full = record { full = λ k has. seated.full.full k (inside k has) }
+
+    apart : AreApart wishes (members 128 before)
+    apart = record { apart = λ k l x has_k has_l. seated.apart.apart k l x (inside k has_k) (inside l has_l) }
+
     dead : List ℕ
-    dead = members 128 (bit_and held (bit_not w128 before))
+    dead = members 128 (bit_and seats.held (bit_not w128 before))
 
     now : Table
     now = cleared wishes dead
@@ -152,16 +167,16 @@ row_stands p before cross held wishes table small_before small_held is among wit
     low k has = (member_set 128 before k has).0
 
     low_dead : (k : ℕ) → Contains dead k → k < 128
-    low_dead k has = (member_set 128 (bit_and held (bit_not w128 before)) k has).0
+    low_dead k has = (member_set 128 (bit_and seats.held (bit_not w128 before)) k has).0
 
     either : (k : ℕ) → Contains (members 128 before) k ⊎ (Contains (members 128 before) k → ⊥)
     either k = is_member before k small_before
 
-    both : IsSetOf (λ k. (bit_at held k ≡ 1) × (bit_at before k ≡ 1 → ⊥)) (bit_and held (bit_not w128 before))
-    both = difference (λ k. bit_at held k ≡ 1) (λ k. bit_at before k ≡ 1) held before small_held small_before (bits_of held) (bits_of before)
+    both : IsSetOf (λ k. (bit_at seats.held k ≡ 1) × (bit_at before k ≡ 1 → ⊥)) (bit_and seats.held (bit_not w128 before))
+    both = difference (λ k. bit_at seats.held k ≡ 1) (λ k. bit_at before k ≡ 1) seats.held before small_held small_before (bits_of seats.held) (bits_of before)
 
     kept : (k : ℕ) → Contains (members 128 before) k → place_at now k ≡ place_at wishes k
-    kept k has = cleared_others dead wishes k (λ gone. ((both.exact k).0 (member_set 128 (bit_and held (bit_not w128 before)) k gone).1).1 (member_set 128 before k has).1)
+    kept k has = cleared_others dead wishes k (λ gone. ((both.exact k).0 (member_set 128 (bit_and seats.held (bit_not w128 before)) k gone).1).1 (member_set 128 before k has).1)
 
     gone : (k : ℕ) → (Contains (members 128 before) k → ⊥) → place_at now k ≡ None
     gone k off = by (place_at wishes k) refl
@@ -169,8 +184,8 @@ row_stands p before cross held wishes table small_before small_held is among wit
         by : (o : Option ℕ) → place_at wishes k ≡ o → place_at now k ≡ None
         by None at = cleared_none dead wishes k is.size low_dead at
         by (Some x) at =
-            let has = member_set 128 held k (among.among k x at) in
-            cleared_gone dead wishes k is.size low_dead (set_member 128 (bit_and held (bit_not w128 before)) k has.0 ((both.exact k).1 (has.1, λ one. off (set_member 128 before k has.0 one))))
+            let has = member_set 128 seats.held k (seated.among.among k x at) in
+            cleared_gone dead wishes k is.size low_dead (set_member 128 (bit_and seats.held (bit_not w128 before)) k has.0 ((both.exact k).1 (has.1, λ one. off (set_member 128 before k has.0 one))))
 
     live : (k x : ℕ) → place_at now k ≡ Some x → Contains (members 128 before) k
     live k x at = elim (either k) [

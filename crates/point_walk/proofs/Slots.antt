@@ -178,13 +178,6 @@ pub step_open : (choice : Table → ℕ → Option ℕ → Type 0) (k : ℕ) (ta
     → Steps choice k table next
 step_open choice k table next o unset chosen e = subst (StepsFrom choice k table next) (sym unset) (o, chosen, e)
 
-pub step_placed : (choice : Table → ℕ → Option ℕ → Type 0) (k : ℕ) (table next : Table) → (place_at table k ≡ None → ⊥) → next ≡ table → Steps choice k table next
-step_placed choice k table next placed e = by (place_at table k) refl
-  where
-    by : (o : Option ℕ) → place_at table k ≡ o → StepsFrom choice k table next o
-    by None unset = absurd (placed unset)
-    by (Some x) at = e
-
 -- a place alone
 pub alone_place : (x : ℕ) → x < 128 → IsSetOf (λ y. Some x ≡ Some y) (1 * 2 ^ x % 2 ^ 128)
 alone_place x small = record {

@@ -57,7 +57,7 @@ some_place o y x some e = some ∙ ap Some (sym (e ∙ ap place_or_zero some))
 
 -- what instruction i writes
 
-writes_at : (code : List Line) (i : ℕ) (d : VReg) (o : Option Line) → slice_get code i ≡ o → written_in o ≡ Some d → WritesAt code i d.0
+pub writes_at : (code : List Line) (i : ℕ) (d : VReg) (o : Option Line) → slice_get code i ≡ o → written_in o ≡ Some d → WritesAt code i d.0
 writes_at code i d None is e = absurd (cc)
 writes_at code i d (Some line) is e = (line, is, e)
 

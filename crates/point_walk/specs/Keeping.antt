@@ -1,10 +1,14 @@
 -- Rows in which each register keeps its place from the row before.
-use Rattle.std.specs.Prelude.{ℕ, ◌≡◌, ◌<◌, ◌≤◌, List, [], ◌∷◌, Some, None, slice_set}
+use Rattle.std.specs.Prelude.{ℕ, ◌≡◌, ◌<◌, ◌≤◌, List, [], ◌∷◌, Option, Some, None, slice_set}
 use Rattle.std.specs.List.{Contains}
 use Rattle.micro_isa.specs.declared.program.Line.{Line}
+use Rattle.micro_isa.specs.declared.program.VReg.{VReg}
 use Rattle.liveness.specs.Liveness.{LiveIn}
 use Rattle.liveness.specs.Pressures.{HasRoom}
+use Rattle.liveness.specs.Sets.{members}
+use Rattle.point_walk.specs.declared.seats.Seats.{Seats}
 use Rattle.point_walk.specs.Walks.{Table, place_at}
+use Rattle.point_walk.specs.Tables.{ArePlacesOf}
 
 -- every register that has a place is of the list
 pub record AreAmong (table : Table) (ks : List ℕ) : Type 0 where
@@ -17,6 +21,17 @@ pub record AreFull (table : Table) (ks : List ℕ) : Type 0 where
 -- no two registers of the list have one place
 pub record AreApart (table : Table) (ks : List ℕ) : Type 0 where
   pub apart : (k l x : ℕ) → Contains ks k → Contains ks l → place_at table k ≡ Some x → place_at table l ≡ Some x → k ≡ l
+
+-- who has places in the table: all of them, those that have places of their own, and these places
+pub record AreSeats (table : Table) (seats : Seats) : Type 0 where
+  pub among : AreAmong table (members 128 seats.held)
+  pub full : AreFull table (members 128 seats.own)
+  pub apart : AreApart table (members 128 seats.own)
+  pub places : ArePlacesOf (members 128 seats.own) table seats.taken
+
+-- the written register has no place that one of the list has
+pub record IsAlone (table : Table) (ks : List ℕ) (written : Option VReg) : Type 0 where
+  pub alone : (d : VReg) (k x : ℕ) → written ≡ Some d → Contains ks k → place_at table k ≡ Some x → place_at table d.0 ≡ Some x → ⊥
 
 -- wishes for row i: of the registers that are live in no two have one place
 pub record AreWishes (code : List Line) (r i : ℕ) (wishes : Table) : Type 0 where

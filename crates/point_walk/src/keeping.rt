@@ -7,14 +7,14 @@ ghost use Rattle.point_walk.specs.Keeping.{AreBelow, AreLow, cleared};
 use crate::giving::if_below;
 use liveness::take_least;
 
-/// Whether each register that is live in can keep its place: each is held, and those that cross have
-/// one below `p`.
-pub fn stands(before: u128, cross: u128, p: u32, held: u128, table: &[Option<u8>]) -> bool
+/// Whether each register that is live in can keep its place: each has one of its own, and those that
+/// cross have one below `p`.
+pub fn stands(before: u128, cross: u128, p: u32, own: u128, table: &[Option<u8>]) -> bool
     requires { IsTable table.now }
     ensures below { result ≡ true → AreBelow p table.now (members 128 cross) }
-    ensures held { result ≡ true → (k : ℕ) → Contains (members 128 before) k → Contains (members 128 held) k }
+    ensures own { result ≡ true → (k : ℕ) → Contains (members 128 before) k → Contains (members 128 own) k }
 {
-    if before & !held == 0 {
+    if before & !own == 0 {
         are_below(cross, p, table)
     } else {
         false

@@ -4,6 +4,7 @@
 mod giving;
 mod keeping;
 mod row;
+mod seats;
 mod stage;
 mod walking;
 

@@ -1,23 +1,23 @@
 ghost use Rattle.std.specs.Prelude.{ℕ, ◌≡◌, ◌+◌, ◌<◌, Some, slice_get, IfOk, length, if◌then◌else◌};
 ghost use Rattle.std.specs.List.{Contains};
-ghost use Rattle.micro_isa.specs.declared.program.VReg.{VReg as Register};
 ghost use Rattle.flow_graph.specs.Paths.{IsClosedCode, IsSmall};
 ghost use Rattle.liveness.specs.Lives.{IsLiveOf};
 ghost use Rattle.liveness.specs.Sets.{members};
-ghost use Rattle.point_walk.specs.Walks.{written_in, falls_in, IsWritePlace, IsPlaceFor, IsLeastApart, place_at, place_or_zero, nothing, put, entries, Follows, AreGiven};
-ghost use Rattle.point_walk.specs.Tables.{IsTable, ArePlacesOf};
-ghost use Rattle.point_walk.specs.Keeping.{AreAmong, AreApart, AreFull, HasWishes};
+ghost use Rattle.point_walk.specs.Walks.{falls_in, IsWritePlace, IsPlaceFor, place_at, place_or_zero, nothing, put, entries, Follows, AreGiven};
+ghost use Rattle.point_walk.specs.Tables.{IsTable, IsTaken, ArePlacesOf};
+ghost use Rattle.point_walk.specs.Keeping.{AreAmong, AreSeats, HasWishes, IsAlone};
 
 use crate::giving::{least_free, place_set};
 use crate::keeping::{clear, stands};
+use crate::seats::{Seats, places_within};
 use crate::stage::{fill, grant_below, grant_free};
 use liveness::{Live, crossing, register_set, survivors, take_least};
 use micro_isa::{Line, List, MOST_FILE, MOST_REGISTERS, NoMemory, VReg, successors, writes};
 use plan::{Place, PlanRow};
 use std::alloc::Global;
 
-/// The row of instruction `i`, given the wishes from the row before and the registers that have
-/// one; leaves those for the next.
+/// The row of instruction `i`, given the wishes from the row before and who has them; leaves those
+/// for the next.
 pub fn next_row(
     alloc: Global,
     code: &[Line],
@@ -25,87 +25,101 @@ pub fn next_row(
     i: usize,
     p: u32,
     table: &mut [Option<u8>],
-    held: &mut u128,
+    seats: &mut Seats,
 ) -> Result<PlanRow, NoMemory>
     requires closed { IsClosedCode code.now }
     requires live { IsLiveOf code.now live.now }
     requires here { i < length code.now }
     requires wishes { IsTable table.old }
-    requires held { AreAmong table.old (members 128 held.old) }
-    requires full { AreFull table.old (members 128 held.old) }
+    requires seats { AreSeats table.old seats.old }
     requires apart { HasWishes code.now p i table.old }
     ensures wishes { IsTable table.new }
-    ensures held { IfOk result (λ row. AreAmong table.new (members 128 held.new)) }
-    ensures full { IfOk result (λ row. AreFull table.new (members 128 held.new)) }
+    ensures seats { IfOk result (λ row. AreSeats table.new seats.new) }
     ensures apart { IfOk result (λ row. HasWishes code.now p (i + 1) table.new) }
     ensures follows { IfOk result (λ row. Follows code.now p i table.old row table.new) }
 {
     let before = live.live_in(i as u32);
     let stay = survivors(code, live, i);
-    settle(before, crossing(code, live, i), p, *held, table);
+    let all = settle(before, crossing(code, live, i), p, *seats, table);
+    let kept = Seats {
+        held: before,
+        own: stay,
+        taken: places_within(before, all, stay, table),
+    };
     let written = writes(&code[i].instr);
-    let write = write_place(written, stay, table);
+    let write = write_place(written, kept, table);
     let listed = list_places(alloc, before, table)?;
-    *held = leave(table, before, falls(code, i), written, write);
+    *seats = leave(table, kept, falls(code, i), written, write);
     Ok(PlanRow {
         places: listed,
         write,
     })
 }
 
-/// Makes the table of the wishes this row's: where each register can keep its place, only those of
-/// the others are taken out.
-fn settle(before: u128, cross: u128, p: u32, held: u128, table: &mut [Option<u8>])
+/// Makes the table of the wishes this row's, and gives the set of its places: where each register
+/// can keep its place, only those of the others are taken out.
+fn settle(before: u128, cross: u128, p: u32, seats: Seats, table: &mut [Option<u8>]) -> u128
     requires wishes { IsTable table.old }
-    requires held { AreAmong table.old (members 128 held) }
-    requires full { AreFull table.old (members 128 held) }
-    requires apart { AreApart table.old (members 128 before) }
+    requires seats { AreSeats table.old seats }
     requires crossing { (k : ℕ) → Contains (members 128 cross) k → Contains (members 128 before) k }
     ensures given { AreGiven p table.old (members 128 before) (members 128 cross) table.new }
     ensures table { IsTable table.new }
     ensures among { AreAmong table.new (members 128 before) }
+    ensures places { ArePlacesOf (members 128 before) table.new result }
 {
-    if stands(before, cross, p, held, table) {
-        clear(held & !before, table);
+    if stands(before, cross, p, seats.own, table) {
+        let places = places_within(seats.own, seats.taken, before, table);
+        clear(seats.held & !before, table);
+        places
     } else {
-        give_anew(before, cross, p, table);
+        give_anew(before, cross, p, table)
     }
 }
 
-/// Gives all places of this row anew, by the wishes in the table.
-fn give_anew(before: u128, cross: u128, p: u32, table: &mut [Option<u8>])
+/// Gives all places of this row anew, by the wishes in the table, and gives the set of them.
+fn give_anew(before: u128, cross: u128, p: u32, table: &mut [Option<u8>]) -> u128
     requires wishes { IsTable table.old }
     requires crossing { (k : ℕ) → Contains (members 128 cross) k → Contains (members 128 before) k }
     ensures given { AreGiven p table.old (members 128 before) (members 128 cross) table.new }
     ensures table { IsTable table.new }
     ensures among { AreAmong table.new (members 128 before) }
+    ensures places { ArePlacesOf (members 128 before) table.new result }
 {
     let mut places: [Option<u8>; MOST_REGISTERS] = [None; MOST_REGISTERS];
-    give_places(before, cross, table, p, &mut places);
+    let taken = give_places(before, cross, table, p, &mut places);
     table.copy_from_slice(&places);
+    taken
 }
 
-/// Gives places to the registers that are live in: by their wishes, as far as those are private
-/// where they must be and free, and else the least free ones.
-fn give_places(before: u128, cross: u128, wishes: &[Option<u8>], p: u32, places: &mut [Option<u8>])
+/// Gives places to the registers that are live in, and gives the set of them: by their wishes, as
+/// far as those are private where they must be and free, and else the least free ones.
+fn give_places(
+    before: u128,
+    cross: u128,
+    wishes: &[Option<u8>],
+    p: u32,
+    places: &mut [Option<u8>],
+) -> u128
     requires wishes { IsTable wishes.now }
     requires none { places.old ≡ nothing }
     ensures given { AreGiven p wishes.now (members 128 before) (members 128 cross) places.new }
-    ensures table { IsTable places.new }
+    ensures taken { IsTaken places.new result }
 {
     let mut taken = 0;
     grant_below(cross, wishes, p, places, &mut taken);
     fill(cross, places, &mut taken);
     grant_free(before, wishes, places, &mut taken);
     fill(before, places, &mut taken);
+    taken
 }
 
 /// The place of the write: the written register's own, if it has one in this row, else the least
 /// that no survivor has.
-fn write_place(written: Option<VReg>, stay: u128, places: &[Option<u8>]) -> Option<u8>
+fn write_place(written: Option<VReg>, stay: Seats, places: &[Option<u8>]) -> Option<u8>
     requires small { IsSmall written }
     requires table { IsTable places.now }
-    ensures place { IsWritePlace (members 128 stay) places.now written result }
+    requires taken { ArePlacesOf (members 128 stay.own) places.now stay.taken }
+    ensures place { IsWritePlace (members 128 stay.own) places.now written result }
     ensures low { (x : ℕ) → result ≡ Some x → x < MOST_FILE }
 {
     match written {
@@ -114,37 +128,17 @@ fn write_place(written: Option<VReg>, stay: u128, places: &[Option<u8>]) -> Opti
     }
 }
 
-fn place_for(register: VReg, stay: u128, places: &[Option<u8>]) -> u8
+fn place_for(register: VReg, stay: Seats, places: &[Option<u8>]) -> u8
     requires small { register.0 < MOST_REGISTERS }
     requires table { IsTable places.now }
-    ensures place { IsPlaceFor (members 128 stay) places.now (place_at places.now register.0) (Some result) }
+    requires taken { ArePlacesOf (members 128 stay.own) places.now stay.taken }
+    ensures place { IsPlaceFor (members 128 stay.own) places.now (place_at places.now register.0) (Some result) }
     ensures low { result < MOST_FILE }
 {
     match places[register.0 as usize] {
         Some(place) => place,
-        None => least_apart(stay, places),
+        None => least_free(stay.taken),
     }
-}
-
-/// The least place that no register of the set has.
-fn least_apart(registers: u128, places: &[Option<u8>]) -> u8
-    requires table { IsTable places.now }
-    ensures { IsLeastApart (members 128 registers) places.now result }
-{
-    least_free(places_of(registers, places))
-}
-
-/// The places that registers of the set have.
-fn places_of(registers: u128, places: &[Option<u8>]) -> u128
-    requires table { IsTable places.now }
-    ensures { ArePlacesOf (members 128 registers) places.now result }
-{
-    let mut set = 0;
-    let mut rest = registers;
-    'registers: while let Some(register) = take_least(&mut rest) {
-        set |= place_set(places[register.0 as usize]);
-    }
-    set
 }
 
 /// The entries of the row: the registers of the set with their places.
@@ -186,30 +180,39 @@ fn falls(code: &[Line], i: usize) -> bool
     successors(&code[i].instr, i as u32).fall.is_some()
 }
 
-/// The wishes for the next row, and the registers that have one: the places after this row, if it
-/// falls through, and else none.
+/// The wishes for the next row, and who has them: the places after this row, if it falls through,
+/// and else none. The survivors and the written register have places of their own.
 fn leave(
     table: &mut [Option<u8>],
-    held: u128,
+    stay: Seats,
     falls: bool,
     written: Option<VReg>,
     write: Option<u8>,
-) -> u128
+) -> Seats
     requires table { IsTable table.old }
-    requires held { AreAmong table.old (members 128 held) }
-    requires full { AreFull table.old (members 128 held) }
+    requires seats { AreSeats table.old stay }
     requires small { IsSmall written }
-    requires write { (d : Register) → written ≡ Some d → (x : ℕ) × (write ≡ Some x) }
+    requires place { IsWritePlace (members 128 stay.own) table.old written write }
+    requires low { (x : ℕ) → write ≡ Some x → x < MOST_FILE }
+    requires alone { IsAlone table.old (members 128 stay.own) written }
     ensures left { table.new ≡ (if falls then put written write table.old else nothing) }
-    ensures held { AreAmong table.new (members 128 result) }
-    ensures full { AreFull table.new (members 128 result) }
+    ensures seats { AreSeats table.new result }
 {
     if falls {
         put_write(table, written, write);
-        held | register_set(written)
+        let alone = register_set(written);
+        Seats {
+            held: stay.held | alone,
+            own: stay.own | alone,
+            taken: stay.taken | place_set(write),
+        }
     } else {
-        clear(held, table);
-        0
+        clear(stay.held, table);
+        Seats {
+            held: 0,
+            own: 0,
+            taken: 0,
+        }
     }
 }
 

@@ -11,6 +11,7 @@ ghost use Rattle.point_walk.specs.Lasting.{IsLasting};
 
 use crate::keeping::are_low;
 use crate::row::next_row;
+use crate::seats::Seats;
 use liveness::{Live, crossing};
 use micro_isa::{Line, List, MOST_FILE, MOST_REGISTERS, NoMemory, Program};
 use plan::{Plan, PlanRow};
@@ -86,11 +87,15 @@ fn walk_rows(alloc: Global, code: &[Line], live: &Live, p: u32) -> Result<Rows, 
     let mut rows = List::new(alloc);
     rows.reserve(code.len())?;
     let mut wishes: [Option<u8>; MOST_REGISTERS] = [None; MOST_REGISTERS];
-    let mut held = 0;
+    let mut seats = Seats {
+        held: 0,
+        own: 0,
+        taken: 0,
+    };
     let mut lasting = true;
     'rows: for i in 0..code.len() {
         let lasts = lasts(code, live, i, p, &wishes);
-        let row = next_row(alloc, code, live, i, p, &mut wishes, &mut held)?;
+        let row = next_row(alloc, code, live, i, p, &mut wishes, &mut seats)?;
         let Ok(()) = rows.push(row) else {
             return Err(NoMemory);
         };

@@ -1,6 +1,6 @@
 use Rattle.std.proofs.Common.{refl, sym, ◌∙◌}
 use Rattle.point_walk.proofs.Beyond.{walked_more}
-use Rattle.point_walk.proofs.Rows.{none_full}
+use Rattle.point_walk.proofs.Seated.{no_seats}
 use Rattle.point_walk.proofs.Slots.{nothing_is_table, nothing_has}
 use Rattle.point_walk.proofs.walking.walk_rows.Goals as goal
 use Rattle.point_walk.proofs.walking.walk_rows.Goals.{then-lasting, else-lasting}
@@ -8,8 +8,7 @@ use Rattle.point_walk.proofs.walking.walk_rows.Goals.{then-lasting, else-lasting
 pub rows-init : goal.rows-init
 rows-init c = record {
   table = nothing_is_table;
-  among = record { among = λ k x at. absurd (nothing_has k x at) };
-  full = none_full _;
+  seats = no_seats _ refl;
   apart = record {
     r = c.requires.room.0;
     order = c.requires.room.1;
@@ -23,8 +22,7 @@ rows-init c = record {
 pub rows-preserved : goal.rows-preserved
 rows-preserved c = record {
   table = c.next_row.ensures.wishes;
-  among = c.in_ok-row.ensures.held;
-  full = c.in_ok-row.ensures.full;
+  seats = c.in_ok-row.ensures.seats;
   apart = c.in_ok-row.ensures.apart;
   walked =
       walked_more c.args.code.now c.args.p c.rows.i c.rows.rows c.push.new.self c.rows.wishes c.next_row.new.table c.in_ok-row.row c.rows.invariant.walked c.in_ok-row.ensures.follows c.in-Ok.ensures.ok;

@@ -1,15 +1,13 @@
 use Rattle.std.proofs.Common.{◌≡◌, ◌≤◌, ℕ, true}
 use Rattle.point_walk.specs.Walks.{Walked}
-use Rattle.liveness.specs.Sets.{members}
 use Rattle.point_walk.specs.Tables.{IsTable}
-use Rattle.point_walk.specs.Keeping.{AreAmong, AreFull, HasWishes}
+use Rattle.point_walk.specs.Keeping.{AreSeats, HasWishes}
 use Rattle.point_walk.proofs.walking.walk_rows.Given as goal
 
 abbrev pub invariant-rows : goal.invariant-rows
 invariant-rows l = record {
   table : IsTable l.wishes;
-  among : AreAmong l.wishes (members 128 l.held);
-  full : AreFull l.wishes (members 128 l.held);
+  seats : AreSeats l.wishes l.seats;
   apart : HasWishes l.code l.p l.i l.wishes;
   walked : Walked l.code l.p l.i l.rows l.wishes;
   lasting : l.lasting ≡ true → (q : ℕ) → l.p ≤ q → Walked l.code q l.i l.rows l.wishes;

@@ -2,7 +2,7 @@ use Rattle.std.proofs.Common.{◌≡◌, ◌↔◌, ◌⊎◌, ℕ, Some, length
 use Rattle.std.specs.Int.{bit_at}
 use Rattle.liveness.specs.Sets.{members}
 use Rattle.point_walk.specs.Walks.{place_at}
-use Rattle.point_walk.proofs.row.places_of.Given as goal
+use Rattle.point_walk.proofs.seats.places_of.Given as goal
 
 abbrev pub invariant-registers : goal.invariant-registers
 invariant-registers l = record {

@@ -3,7 +3,7 @@ use Rattle.std.specs.Int.{bit_at}
 use Rattle.liveness.specs.Sets.{members}
 use Rattle.point_walk.specs.Walks.{place_at}
 use Rattle.point_walk.proofs.Slots.{places_more}
-use Rattle.point_walk.proofs.row.places_of.Goals as goal
+use Rattle.point_walk.proofs.seats.places_of.Goals as goal
 
 pub registers-preserved : goal.registers-preserved
 registers-preserved c = record {
