@@ -25,27 +25,27 @@ pub no_rows : (code : List Line) (part : Pressure) (most : ℕ) → AreRows code
 no_rows code part most = record { long = refl; small = λ j. omega arith; rows = λ i j less. absurd (omega arith) }
 
 -- a row was appended
-pub row_more : (code : List Line) (part : Pressure) (most i : ℕ) (cells row : List ℕ) → AreRows code part most i cells → length row ≡ SIZES → AreRowCosts code part (part.private + i) most row → AreSmall row
-    → AreRows code part most (i + 1) (cells ++ row)
-row_more code part most i cells row rows eight costs small =
-    let long = length-append cells row in
+pub row_more : (code : List Line) (part : Pressure) (most i : ℕ) (cells added : List ℕ) → AreRows code part most i cells → length added ≡ SIZES → AreRowCosts code part (part.private + i) most added → AreSmall added
+    → AreRows code part most (i + 1) (cells ++ added)
+row_more code part most i cells added rows eight costs small =
+    let long = length-append cells added in
     let number = rows.long in record {
       long = omega arith;
       small = λ k. elim (cases_lt k (length cells)) [
-        | inl less ↦ rw (get_or_append_left cells row 0 k less) (rows.small k)
-        | inr more ↦ rw (get_or-append_right cells row k 0 more) (small (k - length cells))
+        | inl less ↦ rw (get_or_append_left cells added 0 k less) (rows.small k)
+        | inr more ↦ rw (get_or-append_right cells added k 0 more) (small (k - length cells))
       ];
       rows = λ h j less col order reach. elim (cases_lt h i) [
         | inl before ↦
             let inside : h * SIZES + j < length cells = omega arith in
-            rw (get_or_append_left cells row 0 (h * SIZES + j) inside) (rows.rows h j before col order reach)
+            rw (get_or_append_left cells added 0 (h * SIZES + j) inside) (rows.rows h j before col order reach)
         | inr last ↦
             let same : h ≡ i = omega arith in
             let outside : length cells ≤ h * SIZES + j = omega arith in
             let at : h * SIZES + j - length cells ≡ j = omega arith in
-            let is : slice_index (cells ++ row) (h * SIZES + j) ≡ slice_index row j = get_or-append_right cells row (h * SIZES + j) 0 outside ∙ ap (slice_index row) at in
+            let is : slice_index (cells ++ added) (h * SIZES + j) ≡ slice_index added j = get_or-append_right cells added (h * SIZES + j) 0 outside ∙ ap (slice_index added) at in
             let cost = costs j col (let o = order in omega arith) reach in
-            rw is (subst (λ n. Costs code (part.private + n) (part.all + j) (slice_index row j)) (sym same) cost)
+            rw is (subst (λ n. Costs code (part.private + n) (part.all + j) (slice_index added j)) (sym same) cost)
       ];
     }
 

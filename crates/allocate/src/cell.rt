@@ -1,6 +1,6 @@
 //! The plan of a context for given numbers of places, by the fits and the walk that were kept.
 
-ghost use Rattle.std.specs.Prelude.{ℕ, ◌≡◌, ◌+◌, ◌<◌, ◌≤◌, List as Sequence, None, Some, IfOk, IfSome};
+ghost use Rattle.std.specs.Prelude.{ℕ, ◌+◌, ◌<◌, ◌≤◌, List as Sequence, None, Some, IfOk, IfSome};
 ghost use Rattle.micro_isa.specs.declared.program.Line.{Line as CodeLine};
 ghost use Rattle.flow_graph.specs.Paths.{IsClosedCode};
 ghost use Rattle.liveness.specs.Lives.{IsLiveOf};
@@ -9,7 +9,7 @@ ghost use Rattle.plan.specs.ValidPlans.{IsValidPlan};
 ghost use Rattle.range_colour.specs.PlacedPlans.{IsRegionFit, IsWholeFit};
 ghost use Rattle.range_colour.specs.Regional.{AreFits};
 ghost use Rattle.pressure.specs.Regions.{AreRegionsOf};
-ghost use Rattle.allocate.specs.Fits.{AreAllThere, AreFitsOf};
+ghost use Rattle.allocate.specs.Fits.{AreFitsOf};
 ghost use Rattle.allocate.specs.Tables.{IsCellPlan, IsPriced, IsWalkPlanned};
 
 use crate::dearer::tell_dearer;
@@ -65,7 +65,8 @@ pub(crate) fn cell(
     lesser(alloc, program, live, fits, walked, p, from + j)
 }
 
-/// The plan by the fit over each region, if there is one, unless the walk costs less.
+/// The plan by the fit over each region, if there is one, unless the walk costs less. Where the fits that
+/// are there do not tell that it does, all are asked for.
 fn lesser(
     alloc: Global,
     program: &Program,
@@ -89,61 +90,13 @@ fn lesser(
         return Ok(walked.plan);
     }
     if are_all_there(fits) {
-        lesser_there(alloc, program, live, fits, walked, p, r)
-    } else {
-        lesser_anew(alloc, program, live, &fits.division, walked, p, r)
+        let regions = fits.regions.as_slice();
+        return lesser_by(alloc, program, live, &fits.division, regions, walked, p, r);
     }
-}
-
-/// The plan by the fits over all regions, which are there, unless the walk costs less.
-fn lesser_there(
-    alloc: Global,
-    program: &Program,
-    live: &Live,
-    fits: &Fits,
-    walked: Planned,
-    p: u32,
-    r: u32,
-) -> Result<Plan, NoMemory>
-    requires closed { IsClosedCode program.now.code }
-    requires live { IsLiveOf program.now.code live.now }
-    requires fits { AreFitsOf program.now.code fits.now }
-    requires whole { AreAllThere fits.now }
-    requires order { p ≤ r }
-    requires few { r ≤ MOST_FILE }
-    requires out { IsWholeFit program.now.code p r None }
-    requires walk { IsWalkPlanned program.now.code p r walked }
-    ensures cell { IfOk result (IsCellPlan program.now.code p r) }
-    ensures valid { IfOk result (IsValidPlan program.now.code) }
-{
-    let regions = fits.regions.as_slice();
-    lesser_by(alloc, program, live, &fits.division, regions, walked, p, r)
-}
-
-/// The plan by the fits over all regions, which are made, unless the walk costs less.
-fn lesser_anew(
-    alloc: Global,
-    program: &Program,
-    live: &Live,
-    division: &Regions,
-    walked: Planned,
-    p: u32,
-    r: u32,
-) -> Result<Plan, NoMemory>
-    requires closed { IsClosedCode program.now.code }
-    requires live { IsLiveOf program.now.code live.now }
-    requires division { AreRegionsOf program.now.code division.now }
-    requires order { p ≤ r }
-    requires few { r ≤ MOST_FILE }
-    requires out { IsWholeFit program.now.code p r None }
-    requires walk { IsWalkPlanned program.now.code p r walked }
-    ensures cell { IfOk result (IsCellPlan program.now.code p r) }
-    ensures valid { IfOk result (IsValidPlan program.now.code) }
-{
     let code = program.code.as_slice();
-    let fits = region_fits(alloc, code, live, division)?;
-    let regions = fits.as_slice();
-    lesser_by(alloc, program, live, division, regions, walked, p, r)
+    let made = region_fits(alloc, code, live, &fits.division)?;
+    let regions = made.as_slice();
+    lesser_by(alloc, program, live, &fits.division, regions, walked, p, r)
 }
 
 /// The plan by these fits over all regions, if there is one, unless the walk costs less.
