@@ -1,6 +1,6 @@
 //! What the plans by the fits over the regions cost, as far as that is asked.
 
-ghost use Rattle.std.specs.Prelude.{ℕ, ◌≡◌, ◌+◌, ◌<◌, ◌≤◌, List as Sequence, IfOk, IfSome, None, Some, OnOk, slice_index, true, if◌then◌else◌};
+ghost use Rattle.std.specs.Prelude.{ℕ, ◌≡◌, ◌<◌, ◌≤◌, List as Sequence, IfOk, IfSome, None, Some, OnOk, slice_index, true, if◌then◌else◌};
 ghost use Rattle.micro_isa.specs.declared.program.Line.{Line as CodeLine};
 ghost use Rattle.flow_graph.specs.Paths.{IsClosedCode};
 ghost use Rattle.liveness.specs.Lives.{IsLiveOf};

@@ -21,7 +21,7 @@ use budget::{CostTable, SIZE_COUNT, SIZES};
 use liveness::Live;
 use micro_isa::{List, MOST_FILE, NoMemory, Program};
 use pressure::Pressure;
-use range_colour::{Fit, whole_fit};
+use range_colour::whole_fit;
 use std::alloc::Global;
 
 /// The tables of all programs, and what was kept of each.

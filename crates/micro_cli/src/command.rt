@@ -16,7 +16,7 @@ use crate::journal_replies::reply_to_journal;
 use crate::lines::{limit_of, too_long, usage_line};
 use crate::{bundle_replies, image_replies};
 use commands::{Job, Prepared, Reply, Status, Task, perform_soak};
-use micro_isa::{LONGEST_IMAGE, NoMemory};
+use micro_isa::NoMemory;
 use micro_kit::{ReadFault, Source, read_all};
 use std::alloc::Global;
 

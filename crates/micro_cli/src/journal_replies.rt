@@ -1,11 +1,9 @@
 //! Replies to an input that is read as a bundle's text and, behind a line `journal`, a journal.
 
-ghost use Rattle.std.specs.Prelude.{◌≡◌, ◌≤◌, IfOk, length};
+ghost use Rattle.std.specs.Prelude.{◌≤◌, IfOk, length};
 ghost use Rattle.commands.specs.Tells.{steps_of_journal};
 ghost use Rattle.commands.specs.declared.status.Status.TheVariants as status;
-ghost use Rattle.journal_text.specs.Journals.{bundle_part, journal_part};
 ghost use Rattle.micro_cli.specs.Answers.{SaysOfJournal, SaysOfParts};
-ghost use Rattle.micro_cli.specs.Lines.{too_long_line};
 
 use crate::bundle_replies::bad_bundle;
 use crate::lines::too_long;

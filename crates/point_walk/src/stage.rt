@@ -1,4 +1,4 @@
-ghost use Rattle.std.specs.Prelude.{ℕ, ◌≡◌, ◌<◌, ◌≤◌, length};
+ghost use Rattle.std.specs.Prelude.{◌<◌};
 ghost use Rattle.liveness.specs.Sets.{members};
 ghost use Rattle.point_walk.specs.Walks.{WishBelow, WishFree, LeastFree, Stage};
 ghost use Rattle.point_walk.specs.Tables.{IsTable, IsTaken};

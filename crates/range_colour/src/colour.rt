@@ -1,4 +1,4 @@
-ghost use Rattle.std.specs.Prelude.{ℕ, ◌≡◌, ◌≢◌, ◌+◌, ◌*◌, ◌^◌, ◌%◌, ◌<◌, ◌≤◌, length, slice_index, slice_set, bit_or, List as Sequence, IfOk, OnOk, vec_len};
+ghost use Rattle.std.specs.Prelude.{ℕ, ◌≡◌, ◌+◌, ◌*◌, ◌^◌, ◌%◌, ◌<◌, ◌≤◌, length, slice_index, slice_set, bit_or, List as Sequence, IfOk, OnOk, vec_len};
 ghost use Rattle.range_colour.specs.Settling.{AreTaken, In, IsColoured, IsFreePlace, IsSettledTo, opened};
 
 use crate::group::width;
