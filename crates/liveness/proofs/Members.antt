@@ -1,10 +1,10 @@
 -- Sets of registers as increasing lists.
-use Rattle.std.proofs.Common.{◌≡◌, ◌≢◌, ◌==◌, eqb, ℕ, zero, suc, ◌/◌, ◌^◌, ◌<◌, ◌-◌, Bool, true, false, cond, [], ◌∷◌, ◌++◌, length, get_or, ap, sym, subst, refl, ◌∙◌, inl, inr, arith, bit_and}
-use Rattle.std.specs.Int.{bit_at, w128, trailing_zeros}
+use Rattle.std.proofs.Common.{◌≡◌, ◌≢◌, ◌==◌, eqb, ℕ, zero, suc, ◌/◌, ◌%◌, ◌^◌, ◌<◌, ◌+◌, ◌*◌, ◌-◌, Bool, true, false, cond, [], ◌∷◌, ◌++◌, length, get_or, ap, sym, subst, refl, ◌∙◌, inl, inr, arith, bit_and, bit_xor}
+use Rattle.std.specs.Int.{bit_at, w64, w128, trailing_zeros}
 use Rattle.std.proofs.lemmas.Bool.{cases_eq, cases_lt}
 use Rattle.std.proofs.lemmas.List.{get_or_append_left, length-append}
 use Rattle.std.proofs.lemmas.List.Elements.{Contains-get_or}
-use Rattle.std.proofs.lemmas.Nat.Bits.{shr_and_one, bit_at-trailing_zeros, bit_at-suc, bit_at_and, bit_at_lowest}
+use Rattle.std.proofs.lemmas.Nat.Bits.{shr_and_one, bit_at-lt, bit_at-trailing_zeros, bit_at-suc, bit_at_and, bit_at_xor, bit_at_lowest, bit_at-zero, bit_at_set_same, bit_at_set_other, bit_at_cat_low}
 use Rattle.std.proofs.Math.Seq.{get_or-append_seam}
 use Rattle.liveness.specs.Sets.{IsSetOf, Lists, members}
 use Rattle.liveness.proofs.Sizes.{member_set, set_member, below_width}
@@ -113,6 +113,32 @@ takes_least n some small =
       | inl below ↦ let none = t.2 i below in omega arith
       | inr from ↦ let same = less.1 i (omega arith) in omega arith
     ])
+
+-- the same by the low 64 bits, where one of them is set
+low_bit : (n i : ℕ) → i < 64 → bit_at (n % 2 ^ 64) i ≡ bit_at n i
+low_bit n i low =
+    let whole : n / 2 ^ 64 * 2 ^ 64 + n % 2 ^ 64 ≡ n = omega arith in
+    sym (bit_at_cat_low (n / 2 ^ 64) 64 (n % 2 ^ 64) i low) ∙ ap (λ m. bit_at m i) whole
+
+pub takes_low : (n : ℕ) → 0 < n % 2 ^ 64 → let k = trailing_zeros w64 (n % 2 ^ 64) in
+    (k < 64) × (members 128 n ≡ k ∷ members 128 (bit_xor n (1 * 2 ^ k % 2 ^ 64)))
+takes_low n some =
+    let t = bit_at-trailing_zeros w64 (n % 2 ^ 64) some (omega arith) in
+    let k = trailing_zeros w64 (n % 2 ^ 64) in
+    let m = 1 * 2 ^ k % 2 ^ 64 in
+    let one : bit_at n k ≡ 1 = sym (low_bit n k t.0) ∙ t.1 in
+    let none : (i : ℕ) → i < k → bit_at n i ≡ 0 = λ i below. sym (low_bit n i (omega (arith, t.0))) ∙ t.2 i below in
+    let there : bit_at m k ≡ 1 = bit_at_set_same w64 0 k t.0 in
+    let both = bit_at_xor n m k in (
+      t.0,
+      least_first 128 n (bit_xor n m) k (omega (arith, t.0)) one none (omega arith)
+          (λ i within other.
+          let each = bit_at_xor n m i in
+          let alone : bit_at m i ≡ bit_at 0 i = bit_at_set_other w64 0 k t.0 i other in
+          let zero = bit_at-zero i in
+          let bit = bit_at-lt n i in
+          omega arith),
+    )
 
 pub takes_none : members 128 0 ≡ []
 unfolding members
