@@ -1,8 +1,8 @@
-ghost use Rattle.std.specs.Prelude.{◌≡◌, ◌||◌, [], ◌∷◌, not, length, slice_get, is_some, option_map, if◌then◌else◌};
+ghost use Rattle.std.specs.Prelude.{◌≡◌, ◌||◌, is_some, option_map};
 ghost use Rattle.std.specs.List.{list_any};
 ghost use Rattle.micro_isa.specs.Formed.{gives_words, takes_words};
 ghost use Rattle.asm_lines.specs.Numbers.{is_no_number};
-ghost use Rattle.asm_lines.specs.Tables.{words_seen, knows, misnamed, one};
+ghost use Rattle.asm_lines.specs.Tables.{words_seen, misnamed, one};
 ghost use Rattle.asm_context.specs.Forms.{number_in};
 ghost use Rattle.asm_context.specs.Faults.{channels, is_misnamed, is_loose, gives_none, takes_none, body_fault};
 ghost use Rattle.asm_context.specs.Views.{seen_operands, seen_form, seen_body, seen_said, seen_outline};

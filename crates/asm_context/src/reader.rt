@@ -1,4 +1,4 @@
-ghost use Rattle.std.specs.Prelude.{◌≡◌, ◌++◌, ◌<◌, ◌≤◌, [], None, IfOk, OnOk, IfErr, length, true};
+ghost use Rattle.std.specs.Prelude.{◌≡◌, ◌++◌, ◌<◌, ◌≤◌, None, IfOk, OnOk, IfErr, length, true};
 ghost use Rattle.std.specs.List.{list_all};
 ghost use Rattle.micro_isa.specs.Names.{IsName, name_test};
 ghost use Rattle.asm_lines.specs.Faults.{Causes};

@@ -1,5 +1,5 @@
 ghost use Rattle.std.specs.Prelude.{◌≡◌, ◌+◌, ◌<◌, IfOk, OnOk, fold, option_map};
-ghost use Rattle.asm_lines.specs.Tables.{words_seen, knows, declare, one};
+ghost use Rattle.asm_lines.specs.Tables.{words_seen, declare, one};
 ghost use Rattle.asm_context.specs.Forms.{does};
 ghost use Rattle.asm_context.specs.Places.{place_in, places_of, places_in};
 ghost use Rattle.asm_context.specs.Said.{nothing, targets_after, count, with_body};

@@ -1,8 +1,8 @@
-ghost use Rattle.std.specs.Prelude.{◌≡◌, ◌+◌, ◌++◌, ◌<◌, ◌≤◌, ◌^◌, [], ◌∷◌, OnOk, Some, None, map, fold, length};
+ghost use Rattle.std.specs.Prelude.{◌≡◌, ◌+◌, ◌++◌, ◌<◌, ◌≤◌, [], ◌∷◌, OnOk, Some, None, map};
 ghost use Rattle.micro_isa.specs.declared.limits.TheConstants.{MOST_INITIAL_WORDS, MOST_PORTS};
 ghost use Rattle.asm_lines.specs.Numbers.{number_or};
 ghost use Rattle.asm_lines.specs.Tables.{words_seen, declare, place_of, one};
-ghost use Rattle.asm_header.specs.Headers.{no_header, filled, filled_at, with_made, with_form, PortFits};
+ghost use Rattle.asm_header.specs.Headers.{no_header, filled, filled_at, with_form, PortFits};
 ghost use Rattle.asm_header.specs.Views.{seen_form, seen_header};
 ghost use Rattle.micro_isa.specs.declared.program.Channel.TheVariants as channel_of;
 

@@ -1,6 +1,6 @@
-ghost use Rattle.std.specs.Prelude.{◌≡◌, ◌++◌, ◌∷◌, [], map, IfOk, OnOk, MatchOption};
+ghost use Rattle.std.specs.Prelude.{◌≡◌, ◌∷◌, [], IfOk, MatchOption};
 ghost use Rattle.std.specs.List.{list_all};
-ghost use Rattle.asm_lines.specs.Cutting.{is_gap, is_allowed, told, words_from, piece, line_of};
+ghost use Rattle.asm_lines.specs.Cutting.{is_gap, is_allowed, told, words_from, line_of};
 ghost use Rattle.asm_lines.specs.Heads.{has_some, head_of, seen_head};
 ghost use Rattle.asm_lines.specs.Sections.{starts};
 ghost use Rattle.asm_lines.specs.Tables.{words_seen};

@@ -1,4 +1,4 @@
-ghost use Rattle.std.specs.Prelude.{◌≡◌, ◌+◌, ◌<◌, ◌≤◌, ◌++◌, true, false, [], ◌∷◌, Some, None, IfOk, IfErr, IsOk, length};
+ghost use Rattle.std.specs.Prelude.{◌≡◌, ◌+◌, ◌<◌, ◌≤◌, ◌++◌, [], ◌∷◌, Some, None, IfOk, IfErr, IsOk, length};
 ghost use mathlib.Core.List.{IsPrefix};
 ghost use Rattle.baton.specs.Views.{Stands, Apart, taken_view, busy_view, posted_view, looked_view, freed_view, dealt_of};
 ghost use Rattle.baton.specs.Passes.{IsOfBaton, IsIdle, IsHolding, Learnt};

@@ -1,8 +1,8 @@
-ghost use Rattle.std.specs.Prelude.{◌≡◌, List, length, replicate, false, true};
+ghost use Rattle.std.specs.Prelude.{◌≡◌, length, replicate, false};
 ghost use Rattle.micro_isa.specs.declared.limits.TheConstants.{MOST_PORTS};
 ghost use Rattle.run_journal.specs.Attaching.{IsFresh};
 ghost use Rattle.run_journal.specs.Turning.{Fits};
-ghost use Rattle.run_journal.specs.Histories.{IsHistory, channels_of};
+ghost use Rattle.run_journal.specs.Histories.{channels_of};
 ghost use Rattle.context_runner.specs.Benches.{IsBench};
 ghost use Rattle.context_runner.specs.Moving.{Stays};
 ghost use Rattle.context_runner.specs.Sharing.{beginning, Turned, PumpedOn};

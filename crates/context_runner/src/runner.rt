@@ -1,4 +1,4 @@
-ghost use Rattle.std.specs.Prelude.{◌≡◌, Bool, IfOk, IfErr, List, false, true, replicate};
+ghost use Rattle.std.specs.Prelude.{◌≡◌, Bool, IfOk, IfErr, false, true, replicate};
 ghost use Rattle.std.specs.Result.{is_ok};
 ghost use Rattle.micro_isa.specs.declared.limits.TheConstants.{MOST_PORTS};
 ghost use Rattle.run_journal.specs.Attaching.{IsFresh};

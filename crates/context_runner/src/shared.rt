@@ -1,8 +1,7 @@
-ghost use Rattle.std.specs.Prelude.{◌≡◌, ◌<◌, ◌≤◌, ◌+◌, ◌++◌, ◌∷◌, [], ℕ, false, All, AllPairs, IfOk, IfErr, IsOk, length, replicate, slice_index_or};
+ghost use Rattle.std.specs.Prelude.{◌≡◌, ◌<◌, ◌≤◌, ◌+◌, [], ℕ, false, All, AllPairs, IfOk, IfErr, IsOk, length, replicate, slice_index_or};
 ghost use mathlib.Core.List.{IsPrefix};
 ghost use Rattle.micro_isa.specs.declared.limits.TheConstants.{MOST_PORTS};
 ghost use Rattle.run_journal.specs.Attaching.{IsFresh};
-ghost use Rattle.run_journal.specs.Histories.{IsHistory, bound_of};
 ghost use Rattle.baton.specs.Views.{Stands, Apart, opened_view, looked_view};
 ghost use Rattle.baton.specs.Passes.{IsOfBaton, IsIdle, Learnt};
 ghost use Rattle.context_runner.specs.Benches.{IsBench};

@@ -1,4 +1,4 @@
-ghost use Rattle.std.specs.Prelude.{◌≡◌, ◌+◌, ◌≤◌, true, false, if◌then◌else◌, Option, Some, None, length, is_some};
+ghost use Rattle.std.specs.Prelude.{◌≡◌, ◌+◌, ◌≤◌, true, false, Option, Some, None, length, is_some};
 ghost use Rattle.micro_isa.specs.declared.image.PReg.{PReg};
 ghost use Rattle.edge_moves.specs.MoveSteps.{move_steps};
 ghost use Rattle.edge_moves.specs.ParallelMove.{AreDistinct, IsFree};

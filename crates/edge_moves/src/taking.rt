@@ -1,4 +1,4 @@
-ghost use Rattle.std.specs.Prelude.{ℕ, ◌≡◌, ◌<◌, ◌≤◌, List, ◌∷◌, true, false, None, length};
+ghost use Rattle.std.specs.Prelude.{ℕ, ◌≡◌, ◌<◌, List, ◌∷◌, true, false, None, length};
 ghost use Rattle.edge_moves.specs.MoveSteps.{Pair, moving, is_source, first_free};
 ghost use Rattle.edge_moves.specs.ParallelMove.{AreDistinct, is_target};
 ghost use Rattle.edge_moves.specs.Tally.{Holds, left_of, inside, openings, TakenBack, CycleTaken};

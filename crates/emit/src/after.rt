@@ -1,6 +1,6 @@
 //! Where each live register is, by the register's number.
 
-ghost use Rattle.std.specs.Prelude.{ℕ, ◌≡◌, ◌<◌, Some, length, slice_get, slice_index};
+ghost use Rattle.std.specs.Prelude.{ℕ, ◌≡◌, ◌<◌, Some, length, slice_index};
 ghost use Rattle.flow_graph.specs.Paths.{IsClosedCode, IsSmall};
 ghost use Rattle.plan.specs.ValidPlans.{IsValidPlan};
 ghost use Rattle.emitted.specs.Edges.{row_at};

@@ -1,11 +1,11 @@
 //! The steps of an edge.
 
-ghost use Rattle.std.specs.Prelude.{ℕ, ◌≡◌, ◌==◌, ◌<◌, ◌≤◌, ◌||◌, IfOk, Some, false, length, slice_get, slice_index, slice_index_or};
+ghost use Rattle.std.specs.Prelude.{ℕ, ◌≡◌, ◌==◌, ◌<◌, ◌||◌, IfOk, Some, false, length, slice_index, slice_index_or};
 ghost use Rattle.flow_graph.specs.Paths.{Edge, IsClosedCode};
 ghost use Rattle.edge_moves.specs.MoveSteps.{is_source, moving, move_steps};
 ghost use Rattle.edge_moves.specs.ParallelMove.{is_target, AreDistinct};
 ghost use Rattle.plan.specs.ValidPlans.{IsValidPlan};
-ghost use Rattle.emitted.specs.Edges.{row_in, pairs_from, free_from, steps_to};
+ghost use Rattle.emitted.specs.Edges.{pairs_from, free_from, steps_to};
 ghost use Rattle.emit.specs.Tables.{AreAfter, AreSmall};
 
 use crate::after::{Places, place_of};

@@ -1,6 +1,6 @@
 //! How many glue words a plan has.
 
-ghost use Rattle.std.specs.Prelude.{ℕ, ◌≡◌, ◌+◌, ◌<◌, ◌≤◌, IfOk, OnOk, length};
+ghost use Rattle.std.specs.Prelude.{◌≡◌, ◌+◌, ◌<◌, ◌≤◌, IfOk, OnOk, length};
 ghost use Rattle.flow_graph.specs.Paths.{IsClosedCode};
 ghost use Rattle.plan.specs.ValidPlans.{IsValidPlan};
 ghost use Rattle.emitted.specs.Edges.{row_at, fall_steps, most_edge_steps};

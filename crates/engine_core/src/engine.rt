@@ -1,4 +1,4 @@
-ghost use Rattle.std.specs.Prelude.{◌≡◌, ◌≤◌, ℕ, IfOk, None, Some, false, replicate, true};
+ghost use Rattle.std.specs.Prelude.{◌≡◌, ◌≤◌, IfOk, None, Some, false, replicate, true};
 ghost use Rattle.micro_isa.specs.declared.limits.TheConstants.{MOST_STEPS};
 ghost use Rattle.micro_isa.specs.Formed.{IsFormedImage};
 ghost use Rattle.world.specs.WorldState.{can_feed, is_plugged};

@@ -1,4 +1,4 @@
-ghost use Rattle.std.specs.Prelude.{◌≡◌, ℕ, ◌<◌, ◌≤◌, length, slice_index_or, OnOk, IfOk, true, false};
+ghost use Rattle.std.specs.Prelude.{◌≡◌, ℕ, ◌<◌, length, slice_index_or, OnOk, IfOk, true, false};
 ghost use Rattle.flow_graph.specs.Floods.{IsReached, IsOpen, marked, stacked};
 ghost use Rattle.flow_graph.specs.Paths.{AreWithin, Below};
 

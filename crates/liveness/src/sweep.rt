@@ -1,8 +1,7 @@
-ghost use Rattle.std.specs.Prelude.{◌≡◌, ℕ, ◌<◌, ◌≤◌, length, sum, slice_get, slice_index_or, true, false};
+ghost use Rattle.std.specs.Prelude.{◌≡◌, ◌<◌, ◌≤◌, length, sum, true, false};
 ghost use Rattle.flow_graph.specs.Paths.{Below, IsClosedCode, IsSmall, HasSmallRegisters};
 ghost use Rattle.flow_graph.specs.Flows.{IsFlowOf};
-ghost use Rattle.micro_isa.specs.Columns.{next_of};
-ghost use Rattle.liveness.specs.Sweeps.{mask as mask_of, at_next, out_of, in_of, IsClosedAt, IsClosed, IsSweep, HasGrown, IsLive, IsOutSet};
+ghost use Rattle.liveness.specs.Sweeps.{mask as mask_of, at_next, in_of, IsClosedAt, IsClosed, IsSweep, HasGrown, IsLive, IsOutSet};
 
 use flow_graph::Flow;
 use micro_isa::{Line, Next, VReg, reads_of, writes};

@@ -1,10 +1,10 @@
-ghost use Rattle.std.specs.Prelude.{ℕ, ◌≡◌, ◌<◌, ◌≤◌, ◌↔◌, length, slice_get, IsOk, IfErr};
+ghost use Rattle.std.specs.Prelude.{ℕ, ◌≡◌, ◌<◌, ◌≤◌, ◌↔◌, length, IsOk, IfErr};
 ghost use Rattle.micro_isa.specs.declared.limits.TheConstants.{MOST_FILE};
 ghost use Rattle.flow_graph.specs.Paths.{IsClosedCode};
 ghost use Rattle.liveness.specs.Lives.{IsLiveOf};
 ghost use Rattle.liveness.specs.Pressures.{IsPrivatePressure, IsTotalPressure};
-ghost use Rattle.plan.specs.ValidPlans.{IsValidRow, IsValidPlan};
-ghost use Rattle.plan.specs.Faults.{HasSizes, IsFirstOfRow, IsFirstFault, AreRowsChecked, IsPlanChecked, IsRowChecked};
+ghost use Rattle.plan.specs.ValidPlans.{IsValidPlan};
+ghost use Rattle.plan.specs.Faults.{IsFirstFault, AreRowsChecked, IsPlanChecked, IsRowChecked};
 
 use crate::fault::PlanFault;
 use crate::listing::check_listing;

@@ -1,8 +1,8 @@
-ghost use Rattle.std.specs.Prelude.{ℕ, ◌≡◌, ◌<◌, ◌≤◌, nat_le, if◌then◌else◌, Some, None, length};
+ghost use Rattle.std.specs.Prelude.{◌≡◌, ◌<◌, ◌≤◌, nat_le, if◌then◌else◌, Some, None, length};
 ghost use Rattle.std.specs.List.{All, find};
 ghost use Rattle.flow_graph.specs.Paths.{IsClosedCode};
 ghost use Rattle.liveness.specs.Lives.{IsLiveOf};
-ghost use Rattle.plan.specs.Faults.{IsListing, IsInRange, IsPlacingChecked, IsOutChecked, IsWriteOut, IsWrittenPlace, IsPairChecked, IsOverwriteChecked, IsExposedChecked};
+ghost use Rattle.plan.specs.Faults.{IsListing, IsPlacingChecked, IsOutChecked, IsWriteOut, IsWrittenPlace, IsPairChecked, IsOverwriteChecked, IsExposedChecked};
 ghost use Rattle.plan.specs.Finding.{is_beyond, is_at, pair_or, lesser_place, Rises};
 
 use crate::fault::PlanFault;

@@ -1,4 +1,4 @@
-ghost use Rattle.std.specs.Prelude.{◌≡◌, ◌^◌, ◌-◌, ◌+◌, min};
+ghost use Rattle.std.specs.Prelude.{◌≡◌, ◌^◌, ◌-◌};
 ghost use Rattle.ports.specs.Tales.{Polls, Puts};
 ghost use Rattle.ports.specs.Answers.{TallyState, tallied, with_word};
 

@@ -1,4 +1,4 @@
-ghost use Rattle.std.specs.Prelude.{◌≡◌, ◌<◌, ◌≤◌, [], Some, None, length, slice_index_or, OnOk};
+ghost use Rattle.std.specs.Prelude.{◌≡◌, ◌<◌, [], Some, None, length, slice_index_or, OnOk};
 ghost use Rattle.flow_graph.specs.Paths.{Below};
 ghost use Rattle.pressure.specs.Rings.{Link, LinkOf};
 ghost use Rattle.pressure.specs.Floods.{Gives, Floods, IsUnused, AreLow, CanVisit, given, queued};

@@ -7,7 +7,6 @@ ghost use Rattle.micro_isa.specs.declared.limits.TheConstants.{MOST_CONTEXTS};
 ghost use Rattle.micro_isa.specs.Formed.{IsFormedBundle};
 ghost use Rattle.pressure.specs.Pressures.{IsPart, need_of};
 ghost use Rattle.micro_kit.specs.Text.{in_order};
-ghost use Rattle.report_check.specs.Facts.{AreAllFacts};
 ghost use Rattle.report_check.specs.Checks.{pressure_line, unreachable_line, context_lines, need_line, check_text, IsCheckOf, HasOneCheck};
 
 use crate::facts::{Facts, all_facts, pressures_in};

@@ -1,6 +1,6 @@
 //! The summary of the run of a generated bundle.
 
-ghost use Rattle.std.specs.Prelude.{◌≡◌, ◌++◌, Some, length, IfOk, OnOk};
+ghost use Rattle.std.specs.Prelude.{◌≡◌, length, IfOk};
 ghost use Rattle.report_run.specs.Report.{sum_out, soak_summary};
 
 use crate::image::put_image;

@@ -1,7 +1,6 @@
 //! The ports at the opening of a run: none was handed in, so each is unplugged.
 
-ghost use Rattle.std.specs.Prelude.{◌≡◌, ◌+◌, ◌<◌, IfOk, OnOk, [], ◌∷◌, ◌++◌, None, true, false};
-ghost use Rattle.world.specs.WorldState.{is_plugged};
+ghost use Rattle.std.specs.Prelude.{◌≡◌, ◌+◌, ◌<◌, IfOk, OnOk, [], ◌∷◌, ◌++◌, false};
 ghost use Rattle.round_order.specs.Openings.{IsOpening};
 ghost use Rattle.round_order.specs.Journals.{IsOpened, UnpluggedAt};
 

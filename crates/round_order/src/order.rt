@@ -1,6 +1,6 @@
 //! Turns one after another, with their journal.
 
-ghost use Rattle.std.specs.Prelude.{◌≡◌, ◌+◌, ◌-◌, ◌<◌, ◌∷◌, ◌++◌, IfOk, OnOk, IfSome, None, Some, true, false, find, length};
+ghost use Rattle.std.specs.Prelude.{◌≡◌, ◌+◌, ◌-◌, ◌<◌, IfOk, IfSome, None, Some, true, false, find};
 ghost use Rattle.std.specs.List.{range_with_len};
 ghost use Rattle.std.specs.Option.{ForSome};
 ghost use Rattle.micro_isa.specs.declared.limits.TheConstants.{MOST_CONTEXTS};

@@ -1,6 +1,6 @@
 //! The event of a written entry, over the parts of a run.
 
-ghost use Rattle.std.specs.Prelude.{◌≡◌, ◌≤◌, None, Some, vec_capacity};
+ghost use Rattle.std.specs.Prelude.{◌≡◌, ◌≤◌, None, vec_capacity};
 ghost use Rattle.semantics.specs.Core.{illegal_of};
 ghost use Rattle.semantics.specs.Entries.{event_of};
 ghost use Rattle.run_journal.specs.Room.{most_entries};

@@ -1,6 +1,6 @@
 //! What a turn and a pump do, one event at a time, to an engine and its entries.
 
-ghost use Rattle.std.specs.Prelude.{◌≡◌, ◌+◌, ◌<◌, ◌≤◌, ◌++◌, [], ◌∷◌, None, Some, true, false, vec_len, vec_capacity, slice_set, slice_get};
+ghost use Rattle.std.specs.Prelude.{◌≡◌, ◌+◌, ◌<◌, ◌≤◌, ◌++◌, [], ◌∷◌, None, Some, true, false, vec_len, vec_capacity, slice_set};
 ghost use Rattle.micro_isa.specs.Formed.{port_of};
 ghost use Rattle.world.specs.WorldState.{is_plugged, can_feed, after_feed, after_unplug};
 ghost use Rattle.world.specs.declared.event.Event.TheVariants.{Run as RunOf};
@@ -10,11 +10,10 @@ ghost use Rattle.semantics.specs.Core.{illegal_of};
 ghost use Rattle.semantics.specs.Events.{fire};
 ghost use Rattle.semantics.specs.Machine.{machine_semantics};
 ghost use Rattle.engine_core.specs.EngineState.{config_of};
-ghost use Rattle.run_state.specs.Segments.{GoesOn};
 ghost use Rattle.ports.specs.SlotsState.{has};
 ghost use Rattle.run_journal.specs.Room.{most_entries};
 ghost use Rattle.run_journal.specs.Keeping.{port_at};
-ghost use Rattle.run_journal.specs.Turning.{Fits, delivery, loses, LeftBy, HandedOver};
+ghost use Rattle.run_journal.specs.Turning.{Fits, delivery, loses};
 ghost use Rattle.run_journal.specs.Histories.{IsHistory, bound_of, channels_of, is_bound};
 ghost use Rattle.run_journal.specs.Parts.{Went, Delivered, Advanced, HandsOver, LosesWhere};
 

@@ -1,17 +1,15 @@
 //! A pump over the parts of a run.
 
-ghost use Rattle.std.specs.Prelude.{◌≡◌, ◌+◌, ◌<◌, ◌≤◌, ◌++◌, None, Some, true, false, vec_capacity, length, [], slice_set, nat_lt, ◌||◌, if◌then◌else◌};
-ghost use Rattle.std.specs.Option.{is_some};
-ghost use Rattle.world.specs.WorldState.{can_feed, is_plugged};
+ghost use Rattle.std.specs.Prelude.{◌≡◌, ◌+◌, ◌<◌, ◌≤◌, None, Some, true, false, vec_capacity, nat_lt, ◌||◌, if◌then◌else◌};
+ghost use Rattle.world.specs.WorldState.{can_feed};
 ghost use Rattle.semantics.specs.Core.{ending_of, some_runnable};
-ghost use Rattle.engine_core.specs.EngineState.{config_of};
 ghost use Rattle.ports.specs.SlotsState.{has};
 ghost use Rattle.run_journal.specs.Room.{most_entries};
 ghost use Rattle.run_journal.specs.Turning.{Fits};
-ghost use Rattle.run_journal.specs.Pumping.{answered, words_at, ends_at, one_if};
+ghost use Rattle.run_journal.specs.Pumping.{answered};
 ghost use Rattle.run_journal.specs.Histories.{IsHistory, IsIdle, run_ending, bound_of, channels_of};
 ghost use Rattle.run_journal.specs.Parts.{AsksOne, Answers, TakesAnswer};
-ghost use Rattle.run_journal.specs.Turns.{Pumps, PumpedTo, PumpDid, counted, idle_after};
+ghost use Rattle.run_journal.specs.Turns.{Pumps, PumpDid, counted, idle_after};
 
 use crate::answers::Pumped;
 use crate::parts::{feed, lose, port_at};

@@ -1,12 +1,12 @@
 //! A turn over the parts of a run.
 
-ghost use Rattle.std.specs.Prelude.{◌≡◌, ◌≤◌, None, true, false, vec_capacity, length};
+ghost use Rattle.std.specs.Prelude.{◌≡◌, ◌≤◌, None, vec_capacity, length};
 ghost use Rattle.semantics.specs.Core.{ending_of};
 ghost use Rattle.semantics.specs.Machine.{machine_semantics};
 ghost use Rattle.engine_core.specs.EngineState.{config_of};
 ghost use Rattle.run_journal.specs.Room.{most_entries};
 ghost use Rattle.run_journal.specs.Turning.{Fits};
-ghost use Rattle.run_journal.specs.Histories.{IsHistory, IsIdle, bound_of, channels_of};
+ghost use Rattle.run_journal.specs.Histories.{IsHistory, bound_of, channels_of};
 ghost use Rattle.run_journal.specs.Turns.{turn_answer, TurnDid};
 
 use crate::answers::TurnAnswer;

@@ -1,6 +1,6 @@
 //! What one instruction does, over registers of any kind.
 
-ghost use Rattle.std.specs.Prelude.{◌≡◌, ◌+◌, ◌<◌, ℕ, Option, None, if◌then◌else◌};
+ghost use Rattle.std.specs.Prelude.{◌≡◌, ◌+◌, ◌<◌, Option, None, if◌then◌else◌};
 ghost use Rattle.semantics.specs.declared.SegmentExit.TheVariants.{Store as StoreOf};
 ghost use Rattle.semantics.specs.declared.Change.TheVariants.{Nothing as NothingOf, Register as RegisterOf};
 ghost use Rattle.semantics.specs.Effects.{effect_of, divided, onward, stops};

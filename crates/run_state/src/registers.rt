@@ -1,7 +1,6 @@
 //! What an interpreter runs: lines of code, and registers that it keeps in its own way.
 
 ghost use Rattle.std.specs.Prelude.{◌≡◌, ℕ, Bool, IfOk, List, length, nat_lt, replicate, slice_index, true};
-ghost use Rattle.micro_isa.specs.declared.program.VReg.{VReg as SourceRegister};
 ghost use Rattle.semantics.specs.Stretches.{Numbered};
 ghost use Rattle.semantics.specs.Machine.{numbered_word, read_in, write_in};
 ghost use Rattle.semantics.specs.Source.{Registers as SourceRegisters, numbered_line, put};

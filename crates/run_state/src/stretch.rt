@@ -1,6 +1,6 @@
 //! The instructions of one context, up to its next stop.
 
-ghost use Rattle.std.specs.Prelude.{◌≡◌, ◌+◌, ◌<◌, ◌≤◌, IfSome, Option, None, false, length, drop, slice_get};
+ghost use Rattle.std.specs.Prelude.{◌≡◌, ◌+◌, ◌<◌, ◌≤◌, Option, None, false, length, drop, slice_get};
 ghost use Rattle.semantics.specs.Core.{is_cut};
 ghost use Rattle.semantics.specs.Stretches.{ActiveContext, effect_of_one, uncounted, settled, effect_here, stretch};
 ghost use Rattle.run_state.specs.Running.{kind_by, context_at, written, reached, stretch_seen, CanRun, CanRunOne, ChangesWithin, StaysWithin, IsPlaced};

@@ -1,9 +1,9 @@
-ghost use Rattle.std.specs.Prelude.{◌≡◌, ◌≤◌, IfOk, IfErr, None, Some, false, length, map, true};
+ghost use Rattle.std.specs.Prelude.{◌≡◌, ◌≤◌, IfOk, IfErr, None, Some, false, map, true};
 ghost use Rattle.micro_isa.specs.declared.limits.TheConstants.{MOST_STEPS};
 ghost use Rattle.world.specs.WorldState.{is_plugged};
 ghost use Rattle.micro_isa.specs.Formed.{IsFormedBundle};
-ghost use Rattle.world.specs.declared.event.Event.TheVariants.{Run as RunOf, Feed as FeedOf, Unplug as UnplugOf};
-ghost use Rattle.world.specs.declared.event.Seen.TheVariants.{Ran as RanOf, Fed as FedOf, Unplugged as UnpluggedOf};
+ghost use Rattle.world.specs.declared.event.Event.TheVariants.{Run as RunOf, Unplug as UnplugOf};
+ghost use Rattle.world.specs.declared.event.Seen.TheVariants.{Ran as RanOf, Unplugged as UnpluggedOf};
 ghost use Rattle.semantics.specs.Core.{illegal_of, shown_core};
 ghost use Rattle.semantics.specs.Events.{fire, step};
 ghost use Rattle.semantics.specs.Source.{Contexts, code_of, source_semantics, source_open};

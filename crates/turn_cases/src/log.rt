@@ -1,4 +1,4 @@
-ghost use Rattle.std.specs.Prelude.{◌≡◌, ◌++◌, ◌∷◌, [], OnOk, IfOk};
+ghost use Rattle.std.specs.Prelude.{◌≡◌, ◌++◌, ◌∷◌, [], OnOk};
 ghost use mathlib.Core.List.{IsPrefix};
 ghost use Rattle.baton.specs.Passes.{IsOfBaton, IsIdle};
 

@@ -1,4 +1,4 @@
-ghost use Rattle.std.specs.Prelude.{◌≡◌, ◌<◌, ◌≤◌, IfOk, IsTrue, Some, true, length, []};
+ghost use Rattle.std.specs.Prelude.{◌≡◌, ◌<◌, ◌≤◌, IfOk, Some, true, []};
 ghost use Rattle.world.specs.Channels.{has_word, has_room, has_plugged_port, takes_word, takes_feed, head_of, without_head, with_word, without_port};
 ghost use Rattle.world.specs.Opening.{opened_channel};
 
