@@ -33,7 +33,8 @@ pub fn best_mark(alloc: Global, tables: &[CostTable], file: u32, gap: u32) -> Re
     Ok(best)
 }
 
-/// The better of this mark and that of so many shared registers, if they leave room.
+/// The better of this mark and that of so many shared registers, if they leave room. Where this one costs
+/// nothing and the other takes more registers even for the least sizes, it is not looked for.
 fn better_of(
     alloc: Global,
     tables: &[CostTable],
@@ -48,7 +49,11 @@ fn better_of(
     requires best { IsBestBelow tables.now file shared best }
     ensures { IfOk result (IsBestBelow tables.now file (shared + 1)) }
 {
-    if least_sum(tables, shared) + shared > file {
+    let least = least_sum(tables, shared) + shared;
+    if least > file {
+        return Ok(best);
+    }
+    if best.cost == 0 && best.total < least {
         return Ok(best);
     }
     let mark = mark_at(alloc, tables, file, shared)?;
