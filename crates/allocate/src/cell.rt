@@ -14,13 +14,13 @@ ghost use Rattle.allocate.specs.Tables.{IsCellPlan, IsPriced, IsWalkPlanned};
 
 use crate::dearer::tell_dearer;
 use crate::fits::{Fits, are_all_there};
-use crate::priced::{PricedWalk, serves};
+use crate::priced::{PricedWalk, rows_in, serves, spare_rows};
 use budget::SIZES;
 use emit::glue;
 use liveness::Live;
 use micro_isa::{MOST_FILE, NoMemory, Program};
-use plan::Plan;
-use point_walk::{Route, walk};
+use plan::{Plan, PlanRow};
+use point_walk::{Route, walk_route};
 use pressure::Regions;
 use range_colour::{Fit, fit_plan, region_fits, region_plan};
 use std::alloc::Global;
@@ -59,7 +59,8 @@ pub(crate) fn cell(
 {
     if fits.whole.fits(p, from + j) {
         let code = program.code.as_slice();
-        return fit_plan(alloc, code, live, &fits.whole, p, from + j);
+        let mut spare = spare_rows(alloc, walk);
+        return fit_plan(alloc, code, live, &fits.whole, p, from + j, &mut spare);
     }
     let walked = walked(alloc, program, live, walk, from, j, p)?;
     lesser(alloc, program, live, fits, walked, p, from + j)
@@ -174,38 +175,44 @@ fn walked(
     requires few { from + j ≤ MOST_FILE }
     ensures { IfOk result (IsWalkPlanned program.now.code p (from + j)) }
 {
-    match served(kept, from, j, p) {
-        Some(planned) => Ok(planned),
-        None => walked_anew(alloc, program, live, p, from + j),
+    match served(alloc, kept, from, j, p) {
+        Ok(planned) => Ok(planned),
+        Err(mut spare) => walked_anew(alloc, program, live, p, from + j, &mut spare),
     }
 }
 
-/// The walk by the rows that were kept, if they serve.
-fn served(kept: Option<PricedWalk>, from: u32, j: u32, p: u32) -> Option<Planned>
+/// The walk by the rows that were kept, if they serve; else these rows.
+fn served(
+    alloc: Global,
+    kept: Option<PricedWalk>,
+    from: u32,
+    j: u32,
+    p: u32,
+) -> Result<Planned, Vec<PlanRow>>
     requires within { j < SIZES }
     requires few { from + j ≤ MOST_FILE }
     ensures { (code : Sequence CodeLine) → IsClosedCode code → ((n : ℕ) × IsPrivatePressure code n × (n ≤ p)) → ((n : ℕ) × IsTotalPressure code n × (n ≤ from + j)) → p ≤ from + j
-        → IfSome kept (IsPriced code from) → IfSome result (IsWalkPlanned code p (from + j)) }
+        → IfSome kept (IsPriced code from) → IfOk result (IsWalkPlanned code p (from + j)) }
 {
     match kept {
         Some(walk) => served_by(walk, from, j, p),
-        None => None,
+        None => Err(Vec::new(alloc)),
     }
 }
 
-fn served_by(walk: PricedWalk, from: u32, j: u32, p: u32) -> Option<Planned>
+fn served_by(walk: PricedWalk, from: u32, j: u32, p: u32) -> Result<Planned, Vec<PlanRow>>
     requires within { j < SIZES }
     requires few { from + j ≤ MOST_FILE }
     ensures { (code : Sequence CodeLine) → IsClosedCode code → ((n : ℕ) × IsPrivatePressure code n × (n ≤ p)) → ((n : ℕ) × IsTotalPressure code n × (n ≤ from + j)) → p ≤ from + j
-        → IsPriced code from walk → IfSome result (IsWalkPlanned code p (from + j)) }
+        → IsPriced code from walk → IfOk result (IsWalkPlanned code p (from + j)) }
 {
     if !serves(&walk, p) {
-        return None;
+        return Err(rows_in(walk));
     }
     let PricedWalk { route, costs } = walk;
     let Route { plan, .. } = route;
     let Plan { rows, .. } = plan;
-    Some(Planned {
+    Ok(Planned {
         plan: Plan {
             p,
             r: from + j,
@@ -222,6 +229,7 @@ fn walked_anew(
     live: &Live,
     p: u32,
     r: u32,
+    spare: &mut [PlanRow],
 ) -> Result<Planned, NoMemory>
     requires closed { IsClosedCode program.now.code }
     requires live { IsLiveOf program.now.code live.now }
@@ -231,7 +239,7 @@ fn walked_anew(
     requires few { r ≤ MOST_FILE }
     ensures { IfOk result (IsWalkPlanned program.now.code p r) }
 {
-    let plan = walk(alloc, program, live, p, r)?;
+    let Route { plan, .. } = walk_route(alloc, program, live, p, r, spare)?;
     let cost = glue(alloc, program, &plan)?;
     Ok(Planned { plan, cost })
 }

@@ -118,7 +118,7 @@ fn plan_of(
     match kept {
         Kept::Free(fit) => {
             let code = program.code.as_slice();
-            fit_plan(alloc, code, live, fit, p, part.all + j)
+            fit_plan(alloc, code, live, fit, p, part.all + j, &mut [])
         }
         Kept::Fitted(fits) => cell(alloc, program, live, fits, walk, part.all, j, p),
     }

@@ -12,6 +12,7 @@ use budget::SIZE_COUNT;
 use emit::glues;
 use liveness::Live;
 use micro_isa::{MOST_FILE, NoMemory, Program};
+use plan::{Plan, PlanRow};
 use point_walk::{Route, walk_route};
 use pressure::Pressure;
 use std::alloc::Global;
@@ -21,6 +22,22 @@ use std::alloc::Global;
 pub(crate) struct PricedWalk {
     pub route: Route,
     pub costs: [u32; SIZE_COUNT],
+}
+
+/// The rows of the walk, if there is one, whose memory another plan of its program may use.
+pub(crate) fn spare_rows(alloc: Global, walk: Option<PricedWalk>) -> Vec<PlanRow> {
+    match walk {
+        Some(walk) => rows_in(walk),
+        None => Vec::new(alloc),
+    }
+}
+
+/// The rows of this walk.
+pub(crate) fn rows_in(walk: PricedWalk) -> Vec<PlanRow> {
+    let PricedWalk { route, .. } = walk;
+    let Route { plan, .. } = route;
+    let Plan { rows, .. } = plan;
+    rows.into_vec()
 }
 
 /// Whether the walk with `p` private places has these rows.
@@ -34,7 +51,8 @@ pub(crate) fn serves(walk: &PricedWalk, p: u32) -> bool
     }
 }
 
-/// What the walk costs with `p` private places. `walk` keeps the last walk that was made.
+/// What the walk costs with `p` private places. `walk` keeps the last walk that was made, in the
+/// memory of the one before it.
 pub(crate) fn costs_with(
     alloc: Global,
     program: &Program,
@@ -59,7 +77,8 @@ pub(crate) fn costs_with(
     if let Some(costs) = kept_costs(walk, p) {
         return Ok(costs);
     }
-    let made = priced_walk(alloc, program, live, part, p, most)?;
+    let mut spare = spare_rows(alloc, walk.take());
+    let made = priced_walk(alloc, program, live, part, p, most, &mut spare)?;
     let costs = made.costs;
     *walk = Some(made);
     Ok(costs)
@@ -85,7 +104,7 @@ pub(crate) fn is_walk_free(
     ensures free { IfOk result (λ free. free ≡ true → IsFreeFrom program.now.code part.private part.all) }
     ensures walk { IfSome walk.new (IsPriced program.now.code part.all) }
 {
-    let made = priced_walk(alloc, program, live, part, part.private, most)?;
+    let made = priced_walk(alloc, program, live, part, part.private, most, &mut [])?;
     let free = costs_nothing(&made);
     *walk = Some(made);
     Ok(free)
@@ -141,6 +160,7 @@ fn priced_walk(
     part: Pressure,
     p: u32,
     most: u32,
+    spare: &mut [PlanRow],
 ) -> Result<PricedWalk, NoMemory>
     requires closed { IsClosedCode program.now.code }
     requires live { IsLiveOf program.now.code live.now }
@@ -153,7 +173,7 @@ fn priced_walk(
     ensures own { IfOk result (λ walk. walk.route.plan.p ≡ p) }
     ensures rows { IfOk result (λ walk. HasRows program.now.code p walk.route.plan) }
 {
-    let route = walk_route(alloc, program, live, p, most)?;
+    let route = walk_route(alloc, program, live, p, most, spare)?;
     let costs = glues(alloc, program, &route.plan, part.all)?;
     Ok(PricedWalk { route, costs })
 }

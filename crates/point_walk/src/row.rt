@@ -1,4 +1,4 @@
-ghost use Rattle.std.specs.Prelude.{ℕ, ◌≡◌, ◌+◌, ◌<◌, Some, slice_get, IfOk, length, if◌then◌else◌};
+ghost use Rattle.std.specs.Prelude.{ℕ, [], ◌≡◌, ◌+◌, ◌<◌, Some, slice_get, IfOk, length, if◌then◌else◌};
 ghost use Rattle.std.specs.List.{Contains};
 ghost use Rattle.flow_graph.specs.Paths.{IsClosedCode, IsSmall};
 ghost use Rattle.liveness.specs.Lives.{IsLiveOf};
@@ -14,12 +14,11 @@ use crate::stage::{fill, grant_below, grant_free};
 use liveness::{Live, crossing, register_set, survivors, take_least};
 use micro_isa::{Line, List, MOST_FILE, MOST_REGISTERS, NoMemory, VReg, successors, writes};
 use plan::{Place, PlanRow};
-use std::alloc::Global;
 
 /// The row of instruction `i`, given the wishes from the row before and who has them; leaves those
-/// for the next.
+/// for the next. Its places stand in the memory of the empty list.
 pub fn next_row(
-    alloc: Global,
+    empty: List<Place>,
     code: &[Line],
     live: &Live,
     i: usize,
@@ -27,6 +26,7 @@ pub fn next_row(
     table: &mut [Option<u8>],
     seats: &mut Seats,
 ) -> Result<PlanRow, NoMemory>
+    requires empty { empty ≡ [] }
     requires closed { IsClosedCode code.now }
     requires live { IsLiveOf code.now live.now }
     requires here { i < length code.now }
@@ -48,7 +48,7 @@ pub fn next_row(
     };
     let written = writes(&code[i].instr);
     let write = write_place(written, kept, table);
-    let listed = list_places(alloc, before, table)?;
+    let listed = list_places(empty, before, table)?;
     *seats = leave(table, kept, falls(code, i), written, write);
     Ok(PlanRow {
         places: listed,
@@ -141,16 +141,17 @@ fn place_for(register: VReg, stay: Seats, places: &[Option<u8>]) -> u8
     }
 }
 
-/// The entries of the row: the registers of the set with their places.
+/// The entries of the row: the registers of the set with their places, pushed to the empty list.
 fn list_places(
-    alloc: Global,
+    empty: List<Place>,
     registers: u128,
     places: &[Option<u8>],
 ) -> Result<List<Place>, NoMemory>
+    requires empty { empty ≡ [] }
     requires table { IsTable places.now }
     ensures { IfOk result (λ list. list ≡ entries places.now (members 128 registers)) }
 {
-    let mut list = List::new(alloc);
+    let mut list = empty;
     list.reserve(registers.count_ones() as usize)?;
     let mut rest = registers;
     'registers: while let Some(register) = take_least(&mut rest) {

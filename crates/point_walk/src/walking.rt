@@ -14,7 +14,7 @@ use crate::row::next_row;
 use crate::seats::Seats;
 use liveness::{Live, crossing};
 use micro_isa::{Line, List, MOST_FILE, MOST_REGISTERS, NoMemory, Program};
-use plan::{Plan, PlanRow};
+use plan::{Plan, PlanRow, spare_list};
 use std::alloc::Global;
 
 /// The plan of a walk, and whether its rows are those of each walk with more private places too.
@@ -38,17 +38,19 @@ pub fn walk(alloc: Global, program: &Program, live: &Live, p: u32, r: u32) -> Re
     ensures valid { IfOk result (λ plan. IsValidPlan program.now.code plan) }
     ensures once { (x y : PlanModel) → IsWalk program.now.code p r x → IsWalk program.now.code p r y → x ≡ y }
 {
-    let route = walk_route(alloc, program, live, p, r)?;
+    let route = walk_route(alloc, program, live, p, r, &mut [])?;
     Ok(route.plan)
 }
 
-/// The same plan, and whether it serves more private places.
+/// The same plan, and whether it serves more private places. `spare` are rows of another plan of this
+/// program, if there is one: the memory of their lists is used again.
 pub fn walk_route(
     alloc: Global,
     program: &Program,
     live: &Live,
     p: u32,
     r: u32,
+    spare: &mut [PlanRow],
 ) -> Result<Route, NoMemory>
     requires closed { IsClosedCode program.now.code }
     requires live { IsLiveOf program.now.code live.now }
@@ -60,7 +62,7 @@ pub fn walk_route(
     ensures valid { IfOk result (λ route. IsValidPlan program.now.code route.plan) }
     ensures lasting { IfOk result (IsLasting program.now.code) }
 {
-    match walk_rows(alloc, program.code.as_slice(), live, p) {
+    match walk_rows(alloc, program.code.as_slice(), live, p, spare) {
         Ok(Rows { rows, lasting }) => Ok(Route {
             plan: Plan { p, r, rows },
             lasting,
@@ -76,8 +78,14 @@ struct Rows {
     lasting: bool,
 }
 
-/// The rows of all instructions.
-fn walk_rows(alloc: Global, code: &[Line], live: &Live, p: u32) -> Result<Rows, NoMemory>
+/// The rows of all instructions, in the memory of the spare ones.
+fn walk_rows(
+    alloc: Global,
+    code: &[Line],
+    live: &Live,
+    p: u32,
+    spare: &mut [PlanRow],
+) -> Result<Rows, NoMemory>
     requires closed { IsClosedCode code.now }
     requires live { IsLiveOf code.now live.now }
     requires room { (r : ℕ) × (p ≤ r) × HasRoom code.now p r }
@@ -95,7 +103,8 @@ fn walk_rows(alloc: Global, code: &[Line], live: &Live, p: u32) -> Result<Rows, 
     let mut lasting = true;
     'rows: for i in 0..code.len() {
         let lasts = lasts(code, live, i, p, &wishes);
-        let row = next_row(alloc, code, live, i, p, &mut wishes, &mut seats)?;
+        let empty = spare_list(alloc, spare, i);
+        let row = next_row(empty, code, live, i, p, &mut wishes, &mut seats)?;
         let Ok(()) = rows.push(row) else {
             return Err(NoMemory);
         };

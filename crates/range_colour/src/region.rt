@@ -218,7 +218,7 @@ fn rows(
     rows.reserve(code.len())?;
     'lines: for i in 0..code.len() {
         let places = places_at(fits, regions.region_of(i as u32));
-        let row = row_at(alloc, code, live, i, places)?;
+        let row = row_at(List::new(alloc), code, live, i, places)?;
         let Ok(()) = rows.push(row) else {
             return Err(NoMemory);
         };

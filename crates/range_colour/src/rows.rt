@@ -1,4 +1,4 @@
-ghost use Rattle.std.specs.Prelude.{ℕ, ◌≡◌, ◌<◌, Some, length, slice_index, IfOk};
+ghost use Rattle.std.specs.Prelude.{ℕ, [], ◌≡◌, ◌<◌, Some, length, slice_index, IfOk};
 ghost use Rattle.std.specs.Option.{option_map};
 ghost use Rattle.std.specs.List.{Contains};
 ghost use Rattle.flow_graph.specs.Paths.{IsClosedCode};
@@ -13,16 +13,17 @@ ghost use Rattle.range_colour.specs.Settling.{In};
 use liveness::{Live, take_least};
 use micro_isa::{Line, List, NoMemory, VReg, writes};
 use plan::{Place, PlanRow};
-use std::alloc::Global;
 
-/// The row of instruction `i`, whose registers have these places.
+/// The row of instruction `i`, whose registers have these places. They stand in the memory of the
+/// empty list.
 pub fn row_at(
-    alloc: Global,
+    empty: List<Place>,
     code: &[Line],
     live: &Live,
     i: usize,
     places: &[u16],
 ) -> Result<PlanRow, NoMemory>
+    requires empty { empty ≡ [] }
     requires closed { IsClosedCode code.now }
     requires live { IsLiveOf code.now live.now }
     requires here { i < length code.now }
@@ -31,18 +32,19 @@ pub fn row_at(
     ensures { IfOk result (IsPlacedRow code.now i (slice_index places.now)) }
 {
     let write = write_place(writes(&code[i].instr), places);
-    let places = listed(alloc, live.live_in(i as u32), places)?;
+    let places = listed(empty, live.live_in(i as u32), places)?;
     Ok(PlanRow { places, write })
 }
 
-/// The places of these registers, in increasing order of register.
-fn listed(alloc: Global, set: u128, places: &[u16]) -> Result<List<Place>, NoMemory>
+/// The places of these registers, in increasing order of register, pushed to the empty list.
+fn listed(empty: List<Place>, set: u128, places: &[u16]) -> Result<List<Place>, NoMemory>
+    requires empty { empty ≡ [] }
     requires inside { (k : ℕ) → In set k → k < length places.now }
     requires small { (k : ℕ) → In set k → slice_index places.now k < 256 }
     ensures registers { IfOk result (λ list. registers_of list ≡ members 128 set) }
     ensures places { IfOk result (λ list. (q : Placed) → Contains list q → q.place ≡ slice_index places.now q.register.0) }
 {
-    let mut list = List::new(alloc);
+    let mut list = empty;
     list.reserve(set.count_ones() as usize)?;
     let mut rest = set;
     'registers: while let Some(register) = take_least(&mut rest) {

@@ -11,7 +11,7 @@ use crate::fit::Fit;
 use crate::rows::row_at;
 use liveness::Live;
 use micro_isa::{Line, List, MOST_FILE, MOST_INSTRUCTIONS, MOST_REGISTERS, NoMemory, Program};
-use plan::{Plan, PlanRow};
+use plan::{Plan, PlanRow, spare_list};
 use std::alloc::Global;
 
 /// The plan by first fit over all instructions, in which no register moves; none exactly where it
@@ -54,11 +54,12 @@ fn whole_plan(
     if !fit.fits(p, r) {
         return Ok(None);
     }
-    let plan = fit_plan(alloc, code, live, &fit, p, r)?;
+    let plan = fit_plan(alloc, code, live, &fit, p, r, &mut [])?;
     Ok(Some(plan))
 }
 
-/// The plan by this fit over all instructions, which fits in these sizes.
+/// The plan by this fit over all instructions, which fits in these sizes. `spare` are rows of another
+/// plan of these instructions, if there is one: the memory of their lists is used again.
 pub fn fit_plan(
     alloc: Global,
     code: &[Line],
@@ -66,6 +67,7 @@ pub fn fit_plan(
     fit: &Fit,
     p: u32,
     r: u32,
+    spare: &mut [PlanRow],
 ) -> Result<Plan, NoMemory>
     requires closed { IsClosedCode code.now }
     requires live { IsLiveOf code.now live.now }
@@ -77,7 +79,7 @@ pub fn fit_plan(
     ensures valid { IfOk result (λ plan. IsValidPlan code.now plan) }
     ensures still { IfOk result (λ plan. (i j : ℕ) → Edge code.now i j → MovesNothing code.now plan i j) }
 {
-    let rows = rows(alloc, code, live, fit.places())?;
+    let rows = rows(alloc, code, live, fit.places(), spare)?;
     Ok(Plan { p, r, rows })
 }
 
@@ -118,12 +120,14 @@ fn all_of(alloc: Global, n: usize) -> Result<List<u32>, NoMemory>
     Ok(list)
 }
 
-/// The rows of all instructions, whose registers have the same places everywhere.
+/// The rows of all instructions, whose registers have the same places everywhere, in the memory of
+/// the spare ones.
 fn rows(
     alloc: Global,
     code: &[Line],
     live: &Live,
     places: &[u16],
+    spare: &mut [PlanRow],
 ) -> Result<List<PlanRow>, NoMemory>
     requires closed { IsClosedCode code.now }
     requires live { IsLiveOf code.now live.now }
@@ -134,7 +138,7 @@ fn rows(
     let mut rows = List::new(alloc);
     rows.reserve(code.len())?;
     'lines: for i in 0..code.len() {
-        let row = row_at(alloc, code, live, i, places)?;
+        let row = row_at(spare_list(alloc, spare, i), code, live, i, places)?;
         let Ok(()) = rows.push(row) else {
             return Err(NoMemory);
         };
