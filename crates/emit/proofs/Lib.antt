@@ -6,3 +6,4 @@ pub mod Pricing
 pub mod Laying
 pub mod Addressing
 pub mod Imaging
+pub mod Stilling

@@ -4,3 +4,4 @@ pub mod Blocks
 pub mod Layouts
 pub mod Limits
 pub mod Sized
+pub mod Totals

@@ -11,8 +11,9 @@ mod layout;
 mod rows;
 mod sizes;
 mod starts;
+mod still;
 mod words;
 
 pub use by_size::glues;
-pub use image::emit;
+pub use image::{emit, emit_counted};
 pub use sizes::glue;

@@ -45,7 +45,8 @@ pub(crate) fn context_words(
     Ok(words)
 }
 
-fn push(words: &mut List<Word>, word: Word) -> Result<(), NoMemory>
+/// Appends a word.
+pub(crate) fn push(words: &mut List<Word>, word: Word) -> Result<(), NoMemory>
     ensures { OnOk result (words.new ≡ words.old ++ word ∷ []) }
 {
     if words.push(word).is_err() {
