@@ -16,29 +16,40 @@ use Rattle.allocate.specs.declared.allocation.AllocFault.TheVariants.{NoFit, NoM
 use Rattle.allocate.specs.Needs.{ArePressures}
 use Rattle.allocate.specs.Preferred.{HaveCells, IsPreferred}
 use Rattle.allocate.specs.Tables.{AreChosen, Refused}
-use Rattle.allocate.specs.Allocations.{IsAllocation, TellsFault}
+use Rattle.allocate.specs.Allocations.{IsAllocation, TellsFault, glue_of_all}
 use Rattle.allocate.proofs.Even.{cells_glue}
 use Rattle.allocate.proofs.Once.{cells_once, is_need}
 use Rattle.allocate.proofs.Pricing.{AreTabled, demands_same, need_same}
 use Rattle.allocate.proofs.Rooming.{all_cells}
 use Rattle.allocate.proofs.Zipping.{all_closed}
 
+-- the plans of the preferred sizes are those of its cells
+preferred_cells : (b : Bundle) (parts : List Pressure) (plans : List Plan) (budget : Budget) → ArePressures b.programs parts → IsPreferred b parts budget
+    → AreChosen b.programs budget.private budget.shared (length b.programs) plans → HaveCells b.programs budget.private budget.shared budget.cost plans
+preferred_cells b parts plans budget pressures preferred chosen =
+    let have = all_cells b budget.private budget.shared plans chosen parts pressures preferred.fits in
+    let cost = (cells_once b.programs budget.private budget.shared have.0 budget.cost plans preferred.cost.0 have.1 preferred.cost.1).0 in
+    subst (λ n. HaveCells b.programs budget.private budget.shared n plans) cost have.1
+
+-- what the preferred budget costs is the glue of these plans
+pub preferred_glue : (b : Bundle) (parts : List Pressure) (plans : List Plan) (budget : Budget) → IsFormedBundle b → ArePressures b.programs parts → IsPreferred b parts budget
+    → AreChosen b.programs budget.private budget.shared (length b.programs) plans → budget.cost ≡ glue_of_all b plans
+preferred_glue b parts plans budget formed pressures preferred chosen =
+    cells_glue b.programs budget.private budget.shared budget.cost plans (all_closed b formed) (preferred_cells b parts plans budget pressures preferred chosen)
+
 pub is_allocation : (b : Bundle) (parts : List Pressure) (plans : List Plan) (budget : Budget) (image : Image) (need : ℕ) → IsFormedBundle b → ArePressures b.programs parts → IsPreferred b parts budget
     → AreChosen b.programs budget.private budget.shared (length b.programs) plans → need ≡ need_of parts → need ≤ b.file → image ≡ emitted b plans budget
     → IsAllocation b (record { image = image; budget = budget; plans = plans; glue = budget.cost; need = need })
-is_allocation b parts plans budget image need formed pressures preferred chosen is_need fits is_image =
-    let have = all_cells b budget.private budget.shared plans chosen parts pressures preferred.fits in
-    let cost = (cells_once b.programs budget.private budget.shared have.0 budget.cost plans preferred.cost.0 have.1 preferred.cost.1).0 in
-    let cells = subst (λ n. HaveCells b.programs budget.private budget.shared n plans) cost have.1 in record {
-      parts = parts;
-      pressures = pressures;
-      need = is_need;
-      fits = fits;
-      preferred = preferred;
-      cells = cells;
-      glue = cells_glue b.programs budget.private budget.shared budget.cost plans (all_closed b formed) cells;
-      image = is_image;
-    }
+is_allocation b parts plans budget image need formed pressures preferred chosen is_need fits is_image = record {
+  parts = parts;
+  pressures = pressures;
+  need = is_need;
+  fits = fits;
+  preferred = preferred;
+  cells = preferred_cells b parts plans budget pressures preferred chosen;
+  glue = preferred_glue b parts plans budget formed pressures preferred chosen;
+  image = is_image;
+}
 
 -- a refusal of the tables is one of the bundle
 pub refused_too : (b : Bundle) (parts : List Pressure) (spare : ℕ) (tables : List CostTable) {A : Type 0} (result : Result A AllocFault) → ArePressures b.programs parts → AreTabled spare b.programs tables

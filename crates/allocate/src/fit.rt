@@ -20,7 +20,7 @@ use crate::priced::PricedWalk;
 use crate::sizing::own_total;
 use crate::table::{Tables, tables_of};
 use budget::{Budget, BudgetFault, CostTable, balance};
-use emit::emit;
+use emit::emit_counted;
 use liveness::Live;
 use micro_isa::{Bundle, List, MOST_CONTEXTS, MOST_FILE, NoMemory};
 use pressure::{Pressure, need};
@@ -218,8 +218,8 @@ fn allocated(
         kept,
         &mut walks,
     )?;
-    let image = emit(alloc, bundle, plans.as_slice(), &budget)?;
     let glue = budget.cost;
+    let image = emit_counted(alloc, bundle, plans.as_slice(), &budget, glue)?;
     Ok(Allocation {
         image,
         budget,
