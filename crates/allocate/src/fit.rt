@@ -9,7 +9,7 @@ ghost use Rattle.budget.specs.Best.{IsBest};
 ghost use Rattle.emitted.specs.Emitted.{IsEmitted};
 ghost use Rattle.allocate.specs.Needs.{AreLives, ArePressures};
 ghost use Rattle.allocate.specs.Preferred.{IsPreferred};
-ghost use Rattle.allocate.specs.Tables.{AreKept, AreWalksKept, Refused};
+ghost use Rattle.allocate.specs.Tables.{AreChosen, AreKept, AreWalksKept, Refused};
 ghost use Rattle.allocate.specs.Allocations.{IsAllocation, HasOneAllocation, IsEven, IsStill, TellsFault};
 
 use crate::allocation::{AllocFault, Allocation};
@@ -23,6 +23,7 @@ use budget::{Budget, BudgetFault, CostTable, balance};
 use emit::emit_counted;
 use liveness::Live;
 use micro_isa::{Bundle, List, MOST_CONTEXTS, MOST_FILE, NoMemory};
+use plan::Plan;
 use pressure::{Pressure, need};
 use std::alloc::Global;
 
@@ -40,7 +41,7 @@ pub fn allocate(alloc: Global, bundle: &Bundle) -> Result<Allocation, AllocFault
     ensures still { IfOk result (IsStill bundle.now) }
 {
     match analysed(alloc, bundle) {
-        Ok(analysis) => fit(alloc, bundle, &analysis),
+        Ok(analysis) => fit(alloc, bundle, analysis),
         Err(NoMemory) => Err(AllocFault::NoMemory),
     }
 }
@@ -65,11 +66,11 @@ fn analysed(alloc: Global, bundle: &Bundle) -> Result<Analysis, NoMemory>
     Ok(Analysis { lives, parts })
 }
 
-fn fit(alloc: Global, bundle: &Bundle, analysis: &Analysis) -> Result<Allocation, AllocFault>
+fn fit(alloc: Global, bundle: &Bundle, analysis: Analysis) -> Result<Allocation, AllocFault>
     requires formed { IsFormedBundle bundle.now }
-    requires lives { AreLives bundle.now.programs analysis.now.lives }
-    requires pressures { ArePressures bundle.now.programs analysis.now.parts }
-    requires parts { All IsPart analysis.now.parts }
+    requires lives { AreLives bundle.now.programs analysis.lives }
+    requires pressures { ArePressures bundle.now.programs analysis.parts }
+    requires parts { All IsPart analysis.parts }
     ensures allocation { IfOk result (IsAllocation bundle.now) }
     ensures emitted { IfOk result (λ a. IsEmitted bundle.now a.plans a.budget a.image) }
     ensures fault { IfErr result (TellsFault bundle.now) }
@@ -88,20 +89,20 @@ fn fit(alloc: Global, bundle: &Bundle, analysis: &Analysis) -> Result<Allocation
 fn fitting(
     alloc: Global,
     bundle: &Bundle,
-    analysis: &Analysis,
+    analysis: Analysis,
     need: u32,
 ) -> Result<Allocation, AllocFault>
     requires formed { IsFormedBundle bundle.now }
-    requires lives { AreLives bundle.now.programs analysis.now.lives }
-    requires pressures { ArePressures bundle.now.programs analysis.now.parts }
-    requires parts { All IsPart analysis.now.parts }
-    requires need { need ≡ need_of analysis.now.parts }
+    requires lives { AreLives bundle.now.programs analysis.lives }
+    requires pressures { ArePressures bundle.now.programs analysis.parts }
+    requires parts { All IsPart analysis.parts }
+    requires need { need ≡ need_of analysis.parts }
     requires fits { need ≤ bundle.now.file }
     ensures allocation { IfOk result (IsAllocation bundle.now) }
     ensures emitted { IfOk result (λ a. IsEmitted bundle.now a.plans a.budget a.image) }
     ensures fault { IfErr result (TellsFault bundle.now) }
 {
-    let found = preferred(alloc, bundle, analysis)?;
+    let found = preferred(alloc, bundle, &analysis)?;
     match allocated(alloc, bundle, analysis, need, found) {
         Ok(allocation) => Ok(allocation),
         Err(NoMemory) => Err(AllocFault::NoMemory),
@@ -182,42 +183,24 @@ fn balanced(alloc: Global, tables: &[CostTable], file: u32) -> Result<Budget, Al
 fn allocated(
     alloc: Global,
     bundle: &Bundle,
-    analysis: &Analysis,
+    analysis: Analysis,
     need: u32,
     found: Chosen,
 ) -> Result<Allocation, NoMemory>
     requires formed { IsFormedBundle bundle.now }
-    requires lives { AreLives bundle.now.programs analysis.now.lives }
-    requires pressures { ArePressures bundle.now.programs analysis.now.parts }
-    requires parts { All IsPart analysis.now.parts }
-    requires need { need ≡ need_of analysis.now.parts }
+    requires lives { AreLives bundle.now.programs analysis.lives }
+    requires pressures { ArePressures bundle.now.programs analysis.parts }
+    requires parts { All IsPart analysis.parts }
+    requires need { need ≡ need_of analysis.parts }
     requires fits { need ≤ bundle.now.file }
-    requires preferred { IsPreferred bundle.now analysis.now.parts found.budget }
+    requires preferred { IsPreferred bundle.now analysis.parts found.budget }
     requires keeps { AreKept bundle.now.programs found.keeps }
     requires walks { AreWalksKept bundle.now.programs found.walks.items }
     ensures allocation { IfOk result (IsAllocation bundle.now) }
     ensures emitted { IfOk result (λ a. IsEmitted bundle.now a.plans a.budget a.image) }
 {
-    let programs = bundle.programs.as_slice();
-    let lives = analysis.lives.as_slice();
-    let parts = analysis.parts.as_slice();
-    let Chosen {
-        budget,
-        keeps,
-        mut walks,
-    } = found;
-    let sizes = budget.private.as_slice();
-    let kept = keeps.as_slice();
-    let plans = plans_of(
-        alloc,
-        programs,
-        lives,
-        parts,
-        sizes,
-        budget.shared,
-        kept,
-        &mut walks,
-    )?;
+    let made = budgeted_plans(alloc, bundle, analysis, found)?;
+    let Budgeted { budget, plans } = made;
     let glue = budget.cost;
     let image = emit_counted(alloc, bundle, plans.as_slice(), &budget, glue)?;
     Ok(Allocation {
@@ -227,4 +210,47 @@ fn allocated(
         glue,
         need,
     })
+}
+
+/// A budget, and the plan of each context for its sizes.
+#[derive(Drop)]
+struct Budgeted {
+    budget: Budget,
+    plans: List<Plan>,
+}
+
+/// The plans for the preferred budget. What was known of the contexts beside is given back, so that the
+/// image is made in its memory.
+fn budgeted_plans(
+    alloc: Global,
+    bundle: &Bundle,
+    analysis: Analysis,
+    found: Chosen,
+) -> Result<Budgeted, NoMemory>
+    requires formed { IsFormedBundle bundle.now }
+    requires lives { AreLives bundle.now.programs analysis.lives }
+    requires pressures { ArePressures bundle.now.programs analysis.parts }
+    requires parts { All IsPart analysis.parts }
+    requires preferred { IsPreferred bundle.now analysis.parts found.budget }
+    requires keeps { AreKept bundle.now.programs found.keeps }
+    requires walks { AreWalksKept bundle.now.programs found.walks.items }
+    ensures preferred { IfOk result (λ made. IsPreferred bundle.now analysis.parts made.budget) }
+    ensures plans { IfOk result (λ made. AreChosen bundle.now.programs made.budget.private made.budget.shared (length bundle.now.programs) made.plans) }
+{
+    let Chosen {
+        budget,
+        keeps,
+        mut walks,
+    } = found;
+    let plans = plans_of(
+        alloc,
+        bundle.programs.as_slice(),
+        analysis.lives.as_slice(),
+        analysis.parts.as_slice(),
+        budget.private.as_slice(),
+        budget.shared,
+        keeps.as_slice(),
+        &mut walks,
+    )?;
+    Ok(Budgeted { budget, plans })
 }
