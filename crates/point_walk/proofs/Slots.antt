@@ -1,5 +1,5 @@
 -- Places given one at a time.
-use Rattle.std.proofs.Common.{◌≡◌, ◌≢◌, ℕ, zero, suc, ◌+◌, ◌<◌, ◌^◌, ◌/◌, ◌*◌, ◌%◌, ◌↔◌, Bool, true, false, List, [], ◌∷◌, ◌++◌, Option, Some, None, length, get_or, set, Contains, refl, sym, subst, ◌∙◌, ap, ◌⊎◌, inl, inr, arith, bit_and}
+use Rattle.std.proofs.Common.{◌≡◌, ◌≢◌, ℕ, zero, suc, ◌+◌, ◌<◌, ◌^◌, ◌/◌, ◌*◌, ◌%◌, ◌↔◌, Bool, true, false, List, [], ◌∷◌, ◌++◌, Option, Some, None, length, get_or, set, take, Contains, refl, sym, subst, ◌∙◌, ap, ◌⊎◌, inl, inr, arith, bit_and}
 use Rattle.std.specs.Prelude.{bit_or, nat_eq, is_some, not, slice_get, if◌then◌else◌}
 use Rattle.std.specs.Int.{bit_at, w128}
 use Rattle.std.specs.List.{IsDistinct, list_any}
@@ -10,7 +10,7 @@ use Rattle.std.proofs.lemmas.Map.Keys.{IsDistinct-push, IsDistinct-from_apart}
 use Rattle.std.proofs.lemmas.Map.Made.{is_member-Decides, length-le_from_is_member}
 use Rattle.std.proofs.lemmas.Map.Steps.{length-le_from_distinct_below}
 use Rattle.std.proofs.lemmas.List.Elements.{Contains-push_cases}
-use Rattle.std.proofs.lemmas.List.{length-append, length-set, get_or-set_same, get_or-set_other, get_or-replicate}
+use Rattle.std.proofs.lemmas.List.{append_assoc, take_more_set, length-append, length-set, get_or-set_same, get_or-set_other, get_or-replicate}
 use Rattle.std.proofs.Math.ListN.{get_or-eq_default}
 use Rattle.std.proofs.lemmas.Nat.Bits.{shr_and_one, bit_at-zero, bit_at_set_same, bit_at_set_other}
 use Rattle.std.proofs.lemmas.Option.{same_Some, slice_get-get_or}
@@ -20,8 +20,9 @@ use Rattle.micro_isa.specs.Columns.{written_by}
 use Rattle.flow_graph.specs.Paths.{IsSmall}
 use Rattle.liveness.specs.Sets.{IsSetOf}
 use Rattle.liveness.proofs.Sizes.{union}
+use Rattle.plan.specs.declared.row.Place.{Place}
 use Rattle.plan.proofs.Entries.{here, there, member_cases}
-use Rattle.point_walk.specs.Walks.{Table, place_at, nothing, written_in, put, IsLeastFree, IsPlaceFor, IsWritePlace, WishBelow, WishFree, StepsFrom, Steps}
+use Rattle.point_walk.specs.Walks.{Table, place_at, place_or_zero, entries, nothing, written_in, put, IsLeastFree, IsPlaceFor, IsWritePlace, WishBelow, WishFree, StepsFrom, Steps}
 use Rattle.point_walk.specs.Tables.{IsTable, IsTaken, IsBelow, IsUntaken}
 
 pub untaken_is : (n k : ℕ) → bit_and (n / 2 ^ k) 1 ≡ bit_at n k
@@ -270,3 +271,15 @@ write_some stay table (Some v) write d e place = by (place_at table v.0) place
     by : (o : Option ℕ) → IsPlaceFor stay table o write → (x : ℕ) × (write ≡ Some x)
     by (Some x) is = (x, is)
     by None is = (is.0, is.1)
+
+-- one more entry of a row is written
+pub entry_more : (line : List Place) (count : ℕ) (k : VReg) (place : ℕ) (table : Table) (ks rest : List ℕ) (all : List Place)
+    → count < length line → ks ≡ k.0 ∷ rest → place ≡ place_or_zero (place_at table k.0) → take count line ++ entries table ks ≡ all
+    → take (count + 1) (set line count (record { register = k; place = place })) ++ entries table rest ≡ all
+entry_more line count k place table ks rest all inside least is written =
+    let entry : Place = record { register = k; place = place } in
+    ap (λ front. front ++ entries table rest) (take_more_set line count entry inside)
+    ∙ append_assoc (take count line) (entry ∷ []) (entries table rest)
+    ∙ (λ j. take count line ++ record { register = k; place = is j } ∷ entries table rest)
+    ∙ ap (λ xs. take count line ++ entries table xs) (sym least)
+    ∙ written

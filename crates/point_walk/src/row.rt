@@ -1,4 +1,4 @@
-ghost use Rattle.std.specs.Prelude.{ℕ, [], ◌≡◌, ◌+◌, ◌<◌, Some, slice_get, IfOk, length, if◌then◌else◌};
+ghost use Rattle.std.specs.Prelude.{ℕ, [], ◌≡◌, ◌+◌, ◌<◌, ◌≤◌, Some, slice_get, take, IfOk, length, if◌then◌else◌};
 ghost use Rattle.std.specs.List.{Contains};
 ghost use Rattle.flow_graph.specs.Paths.{IsClosedCode, IsSmall};
 ghost use Rattle.liveness.specs.Lives.{IsLiveOf};
@@ -25,6 +25,7 @@ pub fn next_row(
     p: u32,
     table: &mut [Option<u8>],
     seats: &mut Seats,
+    line: &mut [Place; MOST_REGISTERS],
 ) -> Result<PlanRow, NoMemory>
     requires empty { empty ≡ [] }
     requires closed { IsClosedCode code.now }
@@ -48,7 +49,7 @@ pub fn next_row(
     };
     let written = writes(&code[i].instr);
     let write = write_place(written, kept, table);
-    let listed = list_places(empty, before, table)?;
+    let listed = list_places(empty, before, table, line)?;
     *seats = leave(table, kept, falls(code, i), written, write);
     Ok(PlanRow {
         places: listed,
@@ -141,26 +142,40 @@ fn place_for(register: VReg, stay: Seats, places: &[Option<u8>]) -> u8
     }
 }
 
-/// The entries of the row: the registers of the set with their places, pushed to the empty list.
+/// The entries of the row: the registers of the set with their places, in the memory of the empty
+/// list. They are made in `line` and copied at once, as a push for each takes longer.
 fn list_places(
     empty: List<Place>,
     registers: u128,
     places: &[Option<u8>],
+    line: &mut [Place; MOST_REGISTERS],
 ) -> Result<List<Place>, NoMemory>
     requires empty { empty ≡ [] }
     requires table { IsTable places.now }
     ensures { IfOk result (λ list. list ≡ entries places.now (members 128 registers)) }
 {
-    let mut list = empty;
-    list.reserve(registers.count_ones() as usize)?;
+    let count = write_places(registers, places, line);
+    let mut items = empty.into_vec();
+    match items.extend_from_slice(&line[..count]) {
+        Ok(()) => Ok(List::of(items)),
+        Err(_) => Err(NoMemory),
+    }
+}
+
+/// Writes the entries of the row to the beginning of `line`, and gives how many there are.
+fn write_places(registers: u128, places: &[Option<u8>], line: &mut [Place; MOST_REGISTERS]) -> usize
+    requires table { IsTable places.now }
+    ensures entries { take result line.new ≡ entries places.now (members 128 registers) }
+    ensures within { result ≤ MOST_REGISTERS }
+{
     let mut rest = registers;
+    let mut count = 0;
     'registers: while let Some(register) = take_least(&mut rest) {
         let place = place_of(places[register.0 as usize]);
-        let Ok(()) = list.push(Place { register, place }) else {
-            return Err(NoMemory);
-        };
+        line[count] = Place { register, place };
+        count += 1;
     }
-    Ok(list)
+    count
 }
 
 fn place_of(place: Option<u8>) -> u8

@@ -13,8 +13,8 @@ use crate::keeping::are_low;
 use crate::row::next_row;
 use crate::seats::Seats;
 use liveness::{Live, crossing};
-use micro_isa::{Line, List, MOST_FILE, MOST_REGISTERS, NoMemory, Program};
-use plan::{Plan, PlanRow, spare_list};
+use micro_isa::{Line, List, MOST_FILE, MOST_REGISTERS, NoMemory, Program, VReg};
+use plan::{Place, Plan, PlanRow, spare_list};
 use std::alloc::Global;
 
 /// The plan of a walk, and whether its rows are those of each walk with more private places too.
@@ -100,11 +100,15 @@ fn walk_rows(
         own: 0,
         taken: 0,
     };
+    let mut line = [Place {
+        register: VReg(0),
+        place: 0,
+    }; MOST_REGISTERS];
     let mut lasting = true;
     'rows: for i in 0..code.len() {
         let lasts = lasts(code, live, i, p, &wishes);
         let empty = spare_list(alloc, spare, i);
-        let row = next_row(empty, code, live, i, p, &mut wishes, &mut seats)?;
+        let row = next_row(empty, code, live, i, p, &mut wishes, &mut seats, &mut line)?;
         let Ok(()) = rows.push(row) else {
             return Err(NoMemory);
         };
