@@ -1,8 +1,9 @@
 -- Rows whose registers have given places.
-use Rattle.std.proofs.Common.{◌≡◌, ℕ, ◌^◌, ◌<◌, ◌↔◌, true, List, ◌∷◌, ◌++◌, Option, Some, None, slice_get, is_some, sym, ap, subst, refl, ◌∙◌, inl, inr, arith}
+use Rattle.std.proofs.Common.{◌≡◌, ℕ, ◌+◌, ◌^◌, ◌<◌, ◌↔◌, true, List, [], ◌∷◌, ◌++◌, length, set, take, Option, Some, None, slice_get, is_some, sym, ap, subst, refl, ◌∙◌, inl, inr, arith}
 use Rattle.std.specs.Option.{option_map}
 use Rattle.std.specs.List.{Contains}
-use Rattle.std.proofs.lemmas.List.Elements.{Contains-append_right}
+use Rattle.std.proofs.lemmas.List.{append_assoc, map-append, take_more_set}
+use Rattle.std.proofs.lemmas.List.Elements.{Contains-append_right, Contains-push_cases}
 use Rattle.micro_isa.specs.declared.program.Line.{Line}
 use Rattle.micro_isa.specs.declared.program.VReg.{VReg}
 use Rattle.micro_isa.specs.Columns.{written_by}
@@ -25,6 +26,24 @@ taken_member before those rest left k whole taken =
     let there : Contains (members 128 rest) k = subst (λ xs. Contains xs k) (sym taken) has in
     let among : Contains (members 128 those) k = subst (λ xs. Contains xs k) whole (Contains-append_right before (members 128 rest) k there) in
     (member_set 128 those k among).1
+
+-- one more entry of a row is written
+pub entry_more : (entries : List Place) (count : ℕ) (q : Place) (ks rest all : List ℕ) → count < length entries → ks ≡ q.register.0 ∷ rest
+    → registers_of (take count entries) ++ ks ≡ all → registers_of (take (count + 1) (set entries count q)) ++ rest ≡ all
+entry_more entries count q ks rest all inside least before =
+    ap (λ front. registers_of front ++ rest) (take_more_set entries count q inside)
+    ∙ ap (λ front. front ++ rest) (map-append (λ (p : Place). p.register.0) (take count entries) (q ∷ []))
+    ∙ append_assoc (registers_of (take count entries)) (q.register.0 ∷ []) rest
+    ∙ ap (λ back. registers_of (take count entries) ++ back) (sym least)
+    ∙ before
+
+pub entry_each : (P : Place → Type 0) (entries : List Place) (count : ℕ) (q : Place) → count < length entries
+    → ((p : Place) → Contains (take count entries) p → P p) → P q → (p : Place) → Contains (take (count + 1) (set entries count q)) p → P p
+entry_each P entries count q inside before here p has =
+    elim (Contains-push_cases (take count entries) q p (subst (λ xs. Contains xs p) (take_more_set entries count q inside) has)) [
+      | inl old ↦ before p old
+      | inr same ↦ subst P same here
+    ]
 
 module _ (code : List Line) (i : ℕ) (line : Line) (is : slice_get code i ≡ Some line) where
   -- what is written is the written register

@@ -11,8 +11,10 @@ ghost use Rattle.range_colour.specs.Regional.{AreFirstFits, AreFits, AreFitsOver
 use crate::fit::Fit;
 use crate::rows::row_at;
 use liveness::Live;
-use micro_isa::{Line, List, MOST_FILE, MOST_INSTRUCTIONS, MOST_REGISTERS, NoMemory, Program};
-use plan::{Plan, PlanRow};
+use micro_isa::{
+    Line, List, MOST_FILE, MOST_INSTRUCTIONS, MOST_REGISTERS, NoMemory, Program, VReg,
+};
+use plan::{Place, Plan, PlanRow};
 use pressure::Regions;
 use std::alloc::Global;
 
@@ -216,9 +218,13 @@ fn rows(
 {
     let mut rows = List::new(alloc);
     rows.reserve(code.len())?;
+    let mut line = [Place {
+        register: VReg(0),
+        place: 0,
+    }; MOST_REGISTERS];
     'lines: for i in 0..code.len() {
         let places = places_at(fits, regions.region_of(i as u32));
-        let row = row_at(List::new(alloc), code, live, i, places)?;
+        let row = row_at(List::new(alloc), code, live, i, places, &mut line)?;
         let Ok(()) = rows.push(row) else {
             return Err(NoMemory);
         };

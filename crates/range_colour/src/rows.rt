@@ -1,4 +1,4 @@
-ghost use Rattle.std.specs.Prelude.{ℕ, [], ◌≡◌, ◌<◌, Some, length, slice_index, IfOk};
+ghost use Rattle.std.specs.Prelude.{ℕ, [], ◌≡◌, ◌<◌, ◌≤◌, Some, length, slice_index, take, IfOk};
 ghost use Rattle.std.specs.Option.{option_map};
 ghost use Rattle.std.specs.List.{Contains};
 ghost use Rattle.flow_graph.specs.Paths.{IsClosedCode};
@@ -11,7 +11,7 @@ ghost use Rattle.range_colour.specs.PlacedPlans.{IsPlacedRow};
 ghost use Rattle.range_colour.specs.Settling.{In};
 
 use liveness::{Live, take_least};
-use micro_isa::{Line, List, NoMemory, VReg, writes};
+use micro_isa::{Line, List, MOST_REGISTERS, NoMemory, VReg, writes};
 use plan::{Place, PlanRow};
 
 /// The row of instruction `i`, whose registers have these places. They stand in the memory of the
@@ -22,6 +22,7 @@ pub fn row_at(
     live: &Live,
     i: usize,
     places: &[u16],
+    line: &mut [Place; MOST_REGISTERS],
 ) -> Result<PlanRow, NoMemory>
     requires empty { empty ≡ [] }
     requires closed { IsClosedCode code.now }
@@ -32,28 +33,48 @@ pub fn row_at(
     ensures { IfOk result (IsPlacedRow code.now i (slice_index places.now)) }
 {
     let write = write_place(writes(&code[i].instr), places);
-    let places = listed(empty, live.live_in(i as u32), places)?;
+    let places = listed(empty, live.live_in(i as u32), places, line)?;
     Ok(PlanRow { places, write })
 }
 
-/// The places of these registers, in increasing order of register, pushed to the empty list.
-fn listed(empty: List<Place>, set: u128, places: &[u16]) -> Result<List<Place>, NoMemory>
+/// The places of these registers, in increasing order of register, in the memory of the empty list.
+/// They are made in `line` and copied at once, as a push for each takes longer.
+fn listed(
+    empty: List<Place>,
+    set: u128,
+    places: &[u16],
+    line: &mut [Place; MOST_REGISTERS],
+) -> Result<List<Place>, NoMemory>
     requires empty { empty ≡ [] }
     requires inside { (k : ℕ) → In set k → k < length places.now }
     requires small { (k : ℕ) → In set k → slice_index places.now k < 256 }
     ensures registers { IfOk result (λ list. registers_of list ≡ members 128 set) }
     ensures places { IfOk result (λ list. (q : Placed) → Contains list q → q.place ≡ slice_index places.now q.register.0) }
 {
-    let mut list = empty;
-    list.reserve(set.count_ones() as usize)?;
+    let count = write_places(set, places, line);
+    let mut items = empty.into_vec();
+    match items.extend_from_slice(&line[..count]) {
+        Ok(()) => Ok(List::of(items)),
+        Err(_) => Err(NoMemory),
+    }
+}
+
+/// Writes the places of these registers to the beginning of `line`, and gives how many there are.
+fn write_places(set: u128, places: &[u16], line: &mut [Place; MOST_REGISTERS]) -> usize
+    requires inside { (k : ℕ) → In set k → k < length places.now }
+    requires small { (k : ℕ) → In set k → slice_index places.now k < 256 }
+    ensures registers { registers_of (take result line.new) ≡ members 128 set }
+    ensures places { (q : Placed) → Contains (take result line.new) q → q.place ≡ slice_index places.now q.register.0 }
+    ensures within { result ≤ MOST_REGISTERS }
+{
     let mut rest = set;
+    let mut count = 0;
     'registers: while let Some(register) = take_least(&mut rest) {
         let place = places[register.0 as usize] as u8;
-        if list.push(Place { register, place }).is_err() {
-            return Err(NoMemory);
-        }
+        line[count] = Place { register, place };
+        count += 1;
     }
-    Ok(list)
+    count
 }
 
 /// The place of the register that is written, if one is.

@@ -10,8 +10,10 @@ ghost use Rattle.range_colour.specs.Regional.{fits_test};
 use crate::fit::Fit;
 use crate::rows::row_at;
 use liveness::Live;
-use micro_isa::{Line, List, MOST_FILE, MOST_INSTRUCTIONS, MOST_REGISTERS, NoMemory, Program};
-use plan::{Plan, PlanRow, spare_list};
+use micro_isa::{
+    Line, List, MOST_FILE, MOST_INSTRUCTIONS, MOST_REGISTERS, NoMemory, Program, VReg,
+};
+use plan::{Place, Plan, PlanRow, spare_list};
 use std::alloc::Global;
 
 /// The plan by first fit over all instructions, in which no register moves; none exactly where it
@@ -137,8 +139,13 @@ fn rows(
 {
     let mut rows = List::new(alloc);
     rows.reserve(code.len())?;
+    let mut line = [Place {
+        register: VReg(0),
+        place: 0,
+    }; MOST_REGISTERS];
     'lines: for i in 0..code.len() {
-        let row = row_at(spare_list(alloc, spare, i), code, live, i, places)?;
+        let empty = spare_list(alloc, spare, i);
+        let row = row_at(empty, code, live, i, places, &mut line)?;
         let Ok(()) = rows.push(row) else {
             return Err(NoMemory);
         };
