@@ -154,7 +154,7 @@ fn list_places(
     requires table { IsTable places.now }
     ensures { IfOk result (λ list. list ≡ entries places.now (members 128 registers)) }
 {
-    let count = write_places(registers, places, line);
+    let count = write_entries(registers, places, line);
     let mut items = empty.into_vec();
     match items.extend_from_slice(&line[..count]) {
         Ok(()) => Ok(List::of(items)),
@@ -163,7 +163,11 @@ fn list_places(
 }
 
 /// Writes the entries of the row to the beginning of `line`, and gives how many there are.
-fn write_places(registers: u128, places: &[Option<u8>], line: &mut [Place; MOST_REGISTERS]) -> usize
+fn write_entries(
+    registers: u128,
+    places: &[Option<u8>],
+    line: &mut [Place; MOST_REGISTERS],
+) -> usize
     requires table { IsTable places.now }
     ensures entries { take result line.new ≡ entries places.now (members 128 registers) }
     ensures within { result ≤ MOST_REGISTERS }

@@ -51,7 +51,7 @@ fn listed(
     ensures registers { IfOk result (λ list. registers_of list ≡ members 128 set) }
     ensures places { IfOk result (λ list. (q : Placed) → Contains list q → q.place ≡ slice_index places.now q.register.0) }
 {
-    let count = write_places(set, places, line);
+    let count = write_entries(set, places, line);
     let mut items = empty.into_vec();
     match items.extend_from_slice(&line[..count]) {
         Ok(()) => Ok(List::of(items)),
@@ -60,7 +60,7 @@ fn listed(
 }
 
 /// Writes the places of these registers to the beginning of `line`, and gives how many there are.
-fn write_places(set: u128, places: &[u16], line: &mut [Place; MOST_REGISTERS]) -> usize
+fn write_entries(set: u128, places: &[u16], line: &mut [Place; MOST_REGISTERS]) -> usize
     requires inside { (k : ℕ) → In set k → k < length places.now }
     requires small { (k : ℕ) → In set k → slice_index places.now k < 256 }
     ensures registers { registers_of (take result line.new) ≡ members 128 set }

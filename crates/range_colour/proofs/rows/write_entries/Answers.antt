@@ -2,7 +2,7 @@ use Rattle.std.proofs.Common.{ap, arith, length, refl, ◌∙◌}
 use Rattle.std.proofs.lemmas.List.{length-set}
 use Rattle.liveness.proofs.Sizes.{length_members, size_le}
 use Rattle.range_colour.proofs.Placing.{entry_each, entry_more, taken_member}
-use Rattle.range_colour.proofs.rows.write_places.Goals as goal
+use Rattle.range_colour.proofs.rows.write_entries.Goals as goal
 
 pub bounds-places-register : goal.bounds-places-register
 bounds-places-register c = c.requires.inside _ (taken_member _ c.args.set _ _ _ c.registers.invariant.registers c.in-Some.ensures.1)

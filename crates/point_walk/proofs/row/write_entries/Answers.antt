@@ -2,7 +2,7 @@ use Rattle.std.proofs.Common.{ap, arith, length, refl, ◌∙◌}
 use Rattle.std.proofs.lemmas.List.{length-set}
 use Rattle.liveness.proofs.Sizes.{length_members, size_le}
 use Rattle.point_walk.proofs.Slots.{entry_more}
-use Rattle.point_walk.proofs.row.write_places.Goals as goal
+use Rattle.point_walk.proofs.row.write_entries.Goals as goal
 
 pub registers-init : goal.registers-init
 registers-init c = record {

@@ -1,7 +1,7 @@
 use Rattle.std.proofs.Common.{◌≡◌, ◌≤◌, ◌+◌, ◌++◌, take, length}
 use Rattle.liveness.specs.Sets.{members}
 use Rattle.point_walk.specs.Walks.{entries}
-use Rattle.point_walk.proofs.row.write_places.Given as goal
+use Rattle.point_walk.proofs.row.write_entries.Given as goal
 
 abbrev pub invariant-registers : goal.invariant-registers
 invariant-registers l = record {

@@ -3,7 +3,7 @@ use Rattle.std.specs.List.{Contains}
 use Rattle.liveness.specs.Sets.{members}
 use Rattle.plan.specs.declared.row.Place.{Place}
 use Rattle.plan.specs.ValidPlans.{registers_of}
-use Rattle.range_colour.proofs.rows.write_places.Given as goal
+use Rattle.range_colour.proofs.rows.write_entries.Given as goal
 
 abbrev pub invariant-registers : goal.invariant-registers
 invariant-registers l = record {
