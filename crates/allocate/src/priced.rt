@@ -1,15 +1,20 @@
 //! The walk of a context and what it costs, kept for more private places as long as its rows serve.
 
-ghost use Rattle.std.specs.Prelude.{ℕ, ◌≡◌, ◌<◌, ◌≤◌, List as Sequence, IfOk, IfSome, slice_index, true};
+ghost use Rattle.std.specs.Prelude.{ℕ, ◌≡◌, ◌<◌, ◌≤◌, List as Sequence, ◌+◌, IfOk, IfSome, slice_index, true};
 ghost use Rattle.budget.specs.declared.TheConstants.{SIZES};
 ghost use Rattle.micro_isa.specs.declared.program.Line.{Line as CodeLine};
 ghost use Rattle.flow_graph.specs.Paths.{IsClosedCode};
 ghost use Rattle.liveness.specs.Lives.{IsLiveOf};
 ghost use Rattle.pressure.specs.Pressures.{IsPressureOf};
+ghost use Rattle.plan.specs.ValidPlans.{IsValidPlan};
+ghost use Rattle.point_walk.specs.Settling.{IsSettled};
+ghost use Rattle.emitted.specs.Words.{glue_of};
+ghost use Rattle.emit.specs.Limits.{most_glue};
+ghost use Rattle.emit.specs.Sized.{with_places};
 ghost use Rattle.allocate.specs.Tables.{AreSmall, AreWalkCosts, HasRows, IsFreeFrom, IsPriced};
 
 use budget::SIZE_COUNT;
-use emit::glues;
+use emit::{glues, jump_glues};
 use liveness::Live;
 use micro_isa::{MOST_FILE, NoMemory, Program};
 use plan::{Plan, PlanRow};
@@ -174,6 +179,27 @@ fn priced_walk(
     ensures rows { IfOk result (λ walk. HasRows program.now.code p walk.route.plan) }
 {
     let route = walk_route(alloc, program, live, p, most, spare)?;
-    let costs = glues(alloc, program, &route.plan, part.all)?;
+    let costs = route_glues(alloc, program, &route, part.all)?;
     Ok(PricedWalk { route, costs })
+}
+
+/// How many glue words a route's plan has with `from` places in all, with one more, and so on.
+fn route_glues(
+    alloc: Global,
+    program: &Program,
+    route: &Route,
+    from: u32,
+) -> Result<[u32; SIZE_COUNT], NoMemory>
+    requires closed { IsClosedCode program.now.code }
+    requires valid { IsValidPlan program.now.code route.now.plan }
+    requires settled { IsSettled program.now.code route.now }
+    requires small { from ≤ MOST_FILE }
+    ensures numbers { IfOk result (λ glues. (j : ℕ) → j < SIZES → slice_index glues j ≡ glue_of program.now.code (with_places route.now.plan (from + j))) }
+    ensures few { IfOk result (λ glues. (j : ℕ) → slice_index glues j ≤ most_glue) }
+{
+    if route.settled {
+        jump_glues(alloc, program, &route.plan, from)
+    } else {
+        glues(alloc, program, &route.plan, from)
+    }
 }

@@ -95,6 +95,10 @@ single_costs pairs one = record {
 pub nothing_to : (code : List Line) (plan : Plan) (i : ℕ) → AreCostsTo code plan i None (record { unnamed = 0; with_free = 0; without = 0 })
 nothing_to code plan i = record { steps = λ r le. either_same (nat_lt 0 r) 0; few = nothing_few }
 
+-- a fall that takes no steps costs nothing
+pub still_fall : (code : List Line) (plan : Plan) (i : ℕ) → ((r : ℕ) → fall_steps code (with_places plan r) i ≡ []) → AreCostsTo code plan i (next_at (slice_get code i) i).fall (record { unnamed = 0; with_free = 0; without = 0 })
+still_fall code plan i none = record { steps = λ r le. either_same (nat_lt 0 r) 0 ∙ sym (ap (λ steps. length steps) (none r)); few = nothing_few }
+
 pub few_most : (n : ℕ) → n ≤ MOST_FILE → most_steps n ≤ most_edge_steps
 few_most n le = grind (arith, nat_tests)
 

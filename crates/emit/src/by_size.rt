@@ -90,7 +90,7 @@ fn is_nothing(costs: EdgeCosts) -> bool
 }
 
 /// Adds the glue words of an instruction with these edges, for each number of places.
-fn add(glues: &mut [u32; SIZE_COUNT], fall: EdgeCosts, jump: EdgeCosts, from: u32)
+pub(crate) fn add(glues: &mut [u32; SIZE_COUNT], fall: EdgeCosts, jump: EdgeCosts, from: u32)
     requires fall { AreFew fall }
     requires jump { AreFew jump }
     requires small { from ≤ MOST_FILE }

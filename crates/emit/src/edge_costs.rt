@@ -28,7 +28,7 @@ pub struct EdgeCosts {
 }
 
 /// The steps of an edge on which nothing moves, or of none.
-const NOTHING: EdgeCosts = EdgeCosts {
+pub(crate) const NOTHING: EdgeCosts = EdgeCosts {
     unnamed: 0,
     with_free: 0,
     without: 0,

@@ -7,6 +7,7 @@ mod counted;
 mod edge_costs;
 mod edges;
 mod image;
+mod jumps;
 mod layout;
 mod rows;
 mod sizes;
@@ -16,4 +17,5 @@ mod words;
 
 pub use by_size::glues;
 pub use image::{emit, emit_counted};
+pub use jumps::jump_glues;
 pub use sizes::glue;

@@ -1,3 +1,4 @@
 pub mod ValidPlans
 pub mod Faults
 pub mod Finding
+pub mod Moving

@@ -8,3 +8,4 @@ pub mod Rooms
 pub mod Standing
 pub mod Rows
 pub mod Seated
+pub mod Settled

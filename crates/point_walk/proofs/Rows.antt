@@ -14,6 +14,7 @@ use Rattle.point_walk.specs.Walks.{Table, nothing, place_at, put, WishBelow, Wis
 use Rattle.point_walk.specs.declared.seats.Seats.{Seats}
 use Rattle.point_walk.specs.Tables.{IsTable, ArePlacesOf}
 use Rattle.point_walk.specs.Keeping.{AreAmong, AreApart, AreBelow, AreFull, AreSeats, cleared}
+use Rattle.point_walk.specs.Settling.{AreKept}
 use Rattle.point_walk.proofs.Slots.{set_here, set_there, nothing_has, none_at}
 use Rattle.point_walk.proofs.Stages.{step_cases, stage_keeps}
 use Rattle.point_walk.proofs.Standing.{cleared_size, cleared_none, cleared_gone, cleared_others, stands_given}
@@ -134,6 +135,7 @@ pub record IsRowTable (p taken : ℕ) (wishes : Table) (before cross : List ℕ)
   pub is : IsTable table
   pub among : AreAmong table before
   pub places : ArePlacesOf before table taken
+  pub stood : AreKept wishes table before
 
 pub row_stands : (p before cross taken : ℕ) (seats : Seats) (wishes table : Table) → before < 2 ^ 128 → seats.held < 2 ^ 128 → IsTable wishes → AreSeats wishes seats
     → ((k : ℕ) → Contains (members 128 cross) k → Contains (members 128 before) k) → AreBelow p wishes (members 128 cross)
@@ -149,6 +151,7 @@ row_stands p before cross taken seats wishes table small_before small_held is se
       λ at. (places.bits x).1 (at.0, at.1, sym (kept at.0 at.1) ∙ at.2),
     );
   };
+  stood = record { kept = λ k has. let at = full.full k has in (at.0, kept k has ∙ at.1, at.1) };
 })
   where
     full : AreFull wishes (members 128 before)

@@ -37,11 +37,11 @@ use Rattle.point_walk.proofs.Stages.{rising_distinct, IsPartial, given_all}
 
 -- entries of a table
 
-registers_entries : (table : Table) (ks : List ℕ) → registers_of (entries table ks) ≡ ks
+pub registers_entries : (table : Table) (ks : List ℕ) → registers_of (entries table ks) ≡ ks
 registers_entries table [] = refl
 registers_entries table (k ∷ ks) = ap (λ rest. k ∷ rest) (registers_entries table ks)
 
-entry_tells : (table : Table) (ks : List ℕ) (k x : ℕ) → HasPlace (entries table ks) k x → Contains ks k × (x ≡ place_or_zero (place_at table k))
+pub entry_tells : (table : Table) (ks : List ℕ) (k x : ℕ) → HasPlace (entries table ks) k x → Contains ks k × (x ≡ place_or_zero (place_at table k))
 entry_tells table [] k x has = absurd (no_member _ has)
 entry_tells table (j ∷ ks) k x has =
     elim (member_cases (record { register = record { 0 = j }; place = place_or_zero (place_at table j) }) (record { register = record { 0 = k }; place = x }) (entries table ks) has) [
@@ -52,7 +52,7 @@ entry_tells table (j ∷ ks) k x has =
       | inr later ↦ let rest = entry_tells table ks k x later in (there j k ks rest.0, rest.1)
     ]
 
-some_place : (o : Option ℕ) (y x : ℕ) → o ≡ Some y → x ≡ place_or_zero o → o ≡ Some x
+pub some_place : (o : Option ℕ) (y x : ℕ) → o ≡ Some y → x ≡ place_or_zero o → o ≡ Some x
 some_place o y x some e = some ∙ ap Some (sym (e ∙ ap place_or_zero some))
 
 -- what instruction i writes
@@ -61,7 +61,7 @@ pub writes_at : (code : List Line) (i : ℕ) (d : VReg) (o : Option Line) → sl
 writes_at code i d None is e = absurd (cc)
 writes_at code i d (Some line) is e = (line, is, e)
 
-at_writes : (code : List Line) (i k : ℕ) → WritesAt code i k → written_in (slice_get code i) ≡ Some (record { 0 = k })
+pub at_writes : (code : List Line) (i k : ℕ) → WritesAt code i k → written_in (slice_get code i) ≡ Some (record { 0 = k })
 at_writes code i k at = ap written_in at.1 ∙ at.2
 
 -- the next instruction of one that falls through
@@ -70,7 +70,7 @@ fall_next instr.Halt at e = absurd (cc)
 fall_next (instr.Jmp target) at e = absurd (cc)
 fall_next _ at e = refl
 
-falls_edge : (code : List Line) (i : ℕ) (o : Option Line) → slice_get code i ≡ o → falls_in i o ≡ true → Edge code i (i + 1)
+pub falls_edge : (code : List Line) (i : ℕ) (o : Option Line) → slice_get code i ≡ o → falls_in i o ≡ true → Edge code i (i + 1)
 falls_edge code i None is e = absurd (cc)
 falls_edge code i (Some line) is e = (line, is, inl (fall_next line.instr i e))
 

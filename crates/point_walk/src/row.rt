@@ -1,4 +1,4 @@
-ghost use Rattle.std.specs.Prelude.{ℕ, [], ◌≡◌, ◌+◌, ◌<◌, ◌≤◌, Some, slice_get, take, IfOk, length, if◌then◌else◌};
+ghost use Rattle.std.specs.Prelude.{ℕ, [], ◌≡◌, ◌+◌, ◌<◌, ◌≤◌, Some, slice_get, take, IfOk, length, if◌then◌else◌, true};
 ghost use Rattle.std.specs.List.{Contains};
 ghost use Rattle.flow_graph.specs.Paths.{IsClosedCode, IsSmall};
 ghost use Rattle.liveness.specs.Lives.{IsLiveOf};
@@ -6,6 +6,7 @@ ghost use Rattle.liveness.specs.Sets.{members};
 ghost use Rattle.point_walk.specs.Walks.{falls_in, IsWritePlace, IsPlaceFor, place_at, place_or_zero, nothing, put, entries, Follows, AreGiven};
 ghost use Rattle.point_walk.specs.Tables.{IsTable, IsTaken, ArePlacesOf};
 ghost use Rattle.point_walk.specs.Keeping.{AreAmong, AreSeats, HasWishes, IsAlone};
+ghost use Rattle.point_walk.specs.Settling.{AreKept, HadPlaces};
 
 use crate::giving::{least_free, place_set};
 use crate::keeping::{clear, stands};
@@ -14,6 +15,13 @@ use crate::stage::{fill, grant_below, grant_free};
 use liveness::{Live, crossing, register_set, survivors, take_least};
 use micro_isa::{Line, List, MOST_FILE, MOST_REGISTERS, NoMemory, VReg, successors, writes};
 use plan::{Place, PlanRow};
+
+/// A row, and whether each register of it stood: it had its place after the row before.
+#[derive(Drop)]
+pub struct Step {
+    pub row: PlanRow,
+    pub stood: bool,
+}
 
 /// The row of instruction `i`, given the wishes from the row before and who has them; leaves those
 /// for the next. Its places stand in the memory of the empty list.
@@ -26,7 +34,7 @@ pub fn next_row(
     table: &mut [Option<u8>],
     seats: &mut Seats,
     line: &mut [Place; MOST_REGISTERS],
-) -> Result<PlanRow, NoMemory>
+) -> Result<Step, NoMemory>
     requires empty { empty ≡ [] }
     requires closed { IsClosedCode code.now }
     requires live { IsLiveOf code.now live.now }
@@ -35,45 +43,63 @@ pub fn next_row(
     requires seats { AreSeats table.old seats.old }
     requires apart { HasWishes code.now p i table.old }
     ensures wishes { IsTable table.new }
-    ensures seats { IfOk result (λ row. AreSeats table.new seats.new) }
-    ensures apart { IfOk result (λ row. HasWishes code.now p (i + 1) table.new) }
-    ensures follows { IfOk result (λ row. Follows code.now p i table.old row table.new) }
+    ensures seats { IfOk result (λ step. AreSeats table.new seats.new) }
+    ensures apart { IfOk result (λ step. HasWishes code.now p (i + 1) table.new) }
+    ensures follows { IfOk result (λ step. Follows code.now p i table.old step.row table.new) }
+    ensures stood { IfOk result (λ step. step.stood ≡ true → HadPlaces table.old step.row.places) }
 {
     let before = live.live_in(i as u32);
     let stay = survivors(code, live, i);
-    let all = settle(before, crossing(code, live, i), p, *seats, table);
+    let settled = settle(before, crossing(code, live, i), p, *seats, table);
     let kept = Seats {
         held: before,
         own: stay,
-        taken: places_within(before, all, stay, table),
+        taken: places_within(before, settled.places, stay, table),
     };
     let written = writes(&code[i].instr);
     let write = write_place(written, kept, table);
     let listed = list_places(empty, before, table, line)?;
     *seats = leave(table, kept, falls(code, i), written, write);
-    Ok(PlanRow {
-        places: listed,
-        write,
+    Ok(Step {
+        row: PlanRow {
+            places: listed,
+            write,
+        },
+        stood: settled.stood,
     })
+}
+
+/// The set of a row's places, and whether its registers stood.
+#[derive(Clone, Copy)]
+struct Settled {
+    places: u128,
+    stood: bool,
 }
 
 /// Makes the table of the wishes this row's, and gives the set of its places: where each register
 /// can keep its place, only those of the others are taken out.
-fn settle(before: u128, cross: u128, p: u32, seats: Seats, table: &mut [Option<u8>]) -> u128
+fn settle(before: u128, cross: u128, p: u32, seats: Seats, table: &mut [Option<u8>]) -> Settled
     requires wishes { IsTable table.old }
     requires seats { AreSeats table.old seats }
     requires crossing { (k : ℕ) → Contains (members 128 cross) k → Contains (members 128 before) k }
     ensures given { AreGiven p table.old (members 128 before) (members 128 cross) table.new }
     ensures table { IsTable table.new }
     ensures among { AreAmong table.new (members 128 before) }
-    ensures places { ArePlacesOf (members 128 before) table.new result }
+    ensures places { ArePlacesOf (members 128 before) table.new result.places }
+    ensures stood { result.stood ≡ true → AreKept table.old table.new (members 128 before) }
 {
     if stands(before, cross, p, seats.own, table) {
         let places = places_within(seats.own, seats.taken, before, table);
         clear(seats.held & !before, table);
-        places
+        Settled {
+            places,
+            stood: true,
+        }
     } else {
-        give_anew(before, cross, p, table)
+        Settled {
+            places: give_anew(before, cross, p, table),
+            stood: false,
+        }
     }
 }
 
@@ -198,6 +224,15 @@ fn falls(code: &[Line], i: usize) -> bool
     ensures { result ≡ falls_in i (slice_get code.now i) }
 {
     successors(&code[i].instr, i as u32).fall.is_some()
+}
+
+/// Whether the instruction before `i` falls through to it.
+pub fn falls_to(code: &[Line], i: usize) -> bool
+    requires closed { IsClosedCode code.now }
+    requires here { i < length code.now }
+    ensures { (j : ℕ) → j + 1 ≡ i → result ≡ falls_in j (slice_get code.now j) }
+{
+    0 < i && falls(code, i - 1)
 }
 
 /// The wishes for the next row, and who has them: the places after this row, if it falls through,

@@ -1,27 +1,30 @@
-ghost use Rattle.std.specs.Prelude.{ℕ, ◌≡◌, ◌<◌, ◌≤◌, IfOk, length, true};
+ghost use Rattle.std.specs.Prelude.{ℕ, ◌≡◌, ◌+◌, ◌<◌, ◌≤◌, IfOk, length, slice_get, true, false};
 ghost use Rattle.flow_graph.specs.Paths.{IsClosedCode};
 ghost use Rattle.liveness.specs.Lives.{IsLiveOf};
 ghost use Rattle.liveness.specs.Pressures.{HasRoom, IsPrivatePressure, IsTotalPressure};
 ghost use Rattle.plan.specs.declared.row.Plan.{Plan as PlanModel};
 ghost use Rattle.plan.specs.declared.row.PlanRow.{PlanRow as RowModel};
 ghost use Rattle.plan.specs.ValidPlans.{IsValidPlan};
-ghost use Rattle.point_walk.specs.Walks.{IsWalk, AreWalked, Follows, Table};
+ghost use Rattle.point_walk.specs.Walks.{IsWalk, AreWalked, Follows, Table, falls_in};
 ghost use Rattle.point_walk.specs.Tables.{IsTable};
 ghost use Rattle.point_walk.specs.Lasting.{IsLasting};
+ghost use Rattle.point_walk.specs.Settling.{FallsStill, IsSettled};
 
 use crate::keeping::are_low;
-use crate::row::next_row;
+use crate::row::{Step, falls_to, next_row};
 use crate::seats::Seats;
 use liveness::{Live, crossing};
 use micro_isa::{Line, List, MOST_FILE, MOST_REGISTERS, NoMemory, Program, VReg};
 use plan::{Place, Plan, PlanRow, spare_list};
 use std::alloc::Global;
 
-/// The plan of a walk, and whether its rows are those of each walk with more private places too.
+/// The plan of a walk, whether its rows are those of each walk with more private places too, and
+/// whether no register moves where an instruction falls through to the next.
 #[derive(Drop)]
 pub struct Route {
     pub plan: Plan,
     pub lasting: bool,
+    pub settled: bool,
 }
 
 /// The plan that goes through the instructions in order: what crosses gets private places, and each
@@ -42,8 +45,9 @@ pub fn walk(alloc: Global, program: &Program, live: &Live, p: u32, r: u32) -> Re
     Ok(route.plan)
 }
 
-/// The same plan, and whether it serves more private places. `spare` are rows of another plan of this
-/// program, if there is one: the memory of their lists is used again.
+/// The same plan, whether it serves more private places, and whether no register moves on a fall.
+/// `spare` are rows of another plan of this program, if there is one: the memory of their lists is
+/// used again.
 pub fn walk_route(
     alloc: Global,
     program: &Program,
@@ -61,21 +65,30 @@ pub fn walk_route(
     ensures walked { IfOk result (λ route. IsWalk program.now.code p r route.plan) }
     ensures valid { IfOk result (λ route. IsValidPlan program.now.code route.plan) }
     ensures lasting { IfOk result (IsLasting program.now.code) }
+    ensures settled { IfOk result (IsSettled program.now.code) }
 {
     match walk_rows(alloc, program.code.as_slice(), live, p, spare) {
-        Ok(Rows { rows, lasting }) => Ok(Route {
+        Ok(
+            Rows {
+                rows,
+                lasting,
+                settled,
+            },
+        ) => Ok(Route {
             plan: Plan { p, r, rows },
             lasting,
+            settled,
         }),
         Err(NoMemory) => Err(NoMemory),
     }
 }
 
-/// The rows of a walk, and whether they are those of each walk with more private places too.
+/// The rows of a walk, and what a route tells of them.
 #[derive(Drop)]
 struct Rows {
     rows: List<PlanRow>,
     lasting: bool,
+    settled: bool,
 }
 
 /// The rows of all instructions, in the memory of the spare ones.
@@ -91,6 +104,7 @@ fn walk_rows(
     requires room { (r : ℕ) × (p ≤ r) × HasRoom code.now p r }
     ensures walked { IfOk result (λ found. AreWalked code.now p found.rows) }
     ensures lasting { IfOk result (λ found. found.lasting ≡ true → (q : ℕ) → p ≤ q → AreWalked code.now q found.rows) }
+    ensures settled { IfOk result (λ found. found.settled ≡ true → FallsStill code.now (record { p = p; r = p; rows = found.rows })) }
 {
     let mut rows = List::new(alloc);
     rows.reserve(code.len())?;
@@ -105,16 +119,41 @@ fn walk_rows(
         place: 0,
     }; MOST_REGISTERS];
     let mut lasting = true;
+    let mut settled = true;
     'rows: for i in 0..code.len() {
         let lasts = lasts(code, live, i, p, &wishes);
         let empty = spare_list(alloc, spare, i);
-        let row = next_row(empty, code, live, i, p, &mut wishes, &mut seats, &mut line)?;
+        let Step { row, stood } = next_row(
+            empty,
+            code,
+            live,
+            i,
+            p,
+            &mut wishes,
+            &mut seats,
+            &mut line,
+        )?;
+        settled = stays_settled(code, i, settled, stood);
         let Ok(()) = rows.push(row) else {
             return Err(NoMemory);
         };
         lasting = lasting && lasts;
     }
-    Ok(Rows { rows, lasting })
+    Ok(Rows {
+        rows,
+        lasting,
+        settled,
+    })
+}
+
+/// Whether no register moves on a fall to row `i`, nor on one before: it stood, or nothing falls to it.
+fn stays_settled(code: &[Line], i: usize, settled: bool, stood: bool) -> bool
+    requires closed { IsClosedCode code.now }
+    requires here { i < length code.now }
+    ensures before { result ≡ true → settled ≡ true }
+    ensures here { result ≡ true → stood ≡ false → (j : ℕ) → j + 1 ≡ i → falls_in j (slice_get code.now j) ≡ false }
+{
+    settled && (stood || !falls_to(code, i))
 }
 
 /// Whether row `i` is the same with more private places: no register that crosses wishes for one of

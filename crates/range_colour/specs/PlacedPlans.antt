@@ -9,7 +9,8 @@ use Rattle.pressure.specs.Regions.{Connected}
 use Rattle.plan.specs.declared.row.Place.{Place}
 use Rattle.plan.specs.declared.row.PlanRow.{PlanRow}
 use Rattle.plan.specs.declared.row.Plan.{Plan}
-use Rattle.plan.specs.ValidPlans.{registers_of, place_in}
+use Rattle.plan.specs.ValidPlans.{registers_of}
+pub use Rattle.plan.specs.Moving.{MovesNothing}
 use Rattle.range_colour.specs.FirstFits.{IsFirstFit, FitsIn, RunsOut}
 use Rattle.range_colour.specs.Groups.{Every, MeetsIn, CrossesIn}
 
@@ -56,9 +57,3 @@ IsRegionFit code p r None =
     (at : ℕ → ℕ → ℕ) × AreRegionFits code at × ((i : ℕ) × (i < length code) × DoesNotFit code (Connected code i) (at i) p r)
 IsRegionFit code p r (Some plan) =
     (at : ℕ → ℕ → ℕ) × AreRegionFits code at × ((i : ℕ) → i < length code → Fits code (Connected code i) (at i) p r) × IsPlacedBy code p r at plan
-
--- on the way from i to j every register that is live there keeps its place; the written one has the write's
-abbrev pub MovesNothing : List Line → Plan → ℕ → ℕ → Type 0
-MovesNothing code plan i j = (row next : PlanRow) → slice_get plan.rows i ≡ Some row → slice_get plan.rows j ≡ Some next
-    → (k : ℕ) → LiveIn code j k
-    → (WritesAt code i k → row.write ≡ Some (place_in next.places k)) × ((WritesAt code i k → ⊥) → place_in row.places k ≡ place_in next.places k)

@@ -8,12 +8,13 @@ use Rattle.liveness.proofs.Staying.{written_small}
 use Rattle.plan.specs.declared.row.PlanRow.{PlanRow}
 use Rattle.point_walk.specs.Walks.{IsWritePlace, written_in}
 use Rattle.point_walk.proofs.Seated.{row_of}
+use Rattle.point_walk.proofs.Settled.{had_places}
 use Rattle.point_walk.proofs.Valid.{wishes_left}
 use Rattle.point_walk.proofs.Slots.{written_is, left_is_table, left_as}
 use Rattle.point_walk.proofs.row.next_row.Goals as goal
 
-pub settle-all-requires-clause-crossing : goal.settle-all-requires-clause-crossing
-settle-all-requires-clause-crossing c = λ k has.
+pub settle-settled-requires-clause-crossing : goal.settle-settled-requires-clause-crossing
+settle-settled-requires-clause-crossing c = λ k has.
     let before = subst (λ set. IsSetOf (LiveIn c.args.code.now c.args.i) set) (sym c.live_in-before.ensures) (c.requires.live.live_in _ c.requires.here) in
     let is_before = listed (LiveIn c.args.code.now c.args.i) c.live_in-before.result (omega arith) before in
     let is_cross = listed (Crosses c.args.code.now c.args.i) c.crossing.result (omega arith) c.crossing.ensures in
@@ -32,21 +33,21 @@ returns-clause-follows c =
       before = members 128 c.live_in-before.result;
       cross = members 128 c.crossing.result;
       stay = members 128 c.survivors-stay.result;
-      table = c.settle-all.new.table;
+      table = c.settle-settled.new.table;
       is_before = listed (LiveIn c.args.code.now c.args.i) c.live_in-before.result (omega arith) before;
       is_cross = listed (Crosses c.args.code.now c.args.i) c.crossing.result (omega arith) c.crossing.ensures;
       is_stay = listed (Stays c.args.code.now c.args.i) c.survivors-stay.result (omega arith) c.survivors-stay.ensures;
-      given = c.settle-all.ensures.given;
+      given = c.settle-settled.ensures.given;
       places = c.in_ok-listed.ensures;
-      write = subst (λ w. IsWritePlace (members 128 c.survivors-stay.result) c.settle-all.new.table w c.write_place-write.result) written c.write_place-write.ensures.place;
-      leaves = left_as c.falls.result _ c.writes-written.result _ c.write_place-write.result c.settle-all.new.table c.leave.new.table c.falls.ensures written c.leave.ensures.left;
+      write = subst (λ w. IsWritePlace (members 128 c.survivors-stay.result) c.settle-settled.new.table w c.write_place-write.result) written c.write_place-write.ensures.place;
+      leaves = left_as c.falls.result _ c.writes-written.result _ c.write_place-write.result c.settle-settled.new.table c.leave.new.table c.falls.ensures written c.leave.ensures.left;
     }
 
 pub returns-clause-wishes : goal.returns-clause-wishes
 returns-clause-wishes c =
-    left_is_table c.falls.result c.writes-written.result c.write_place-write.result c.settle-all.new.table c.leave.new.table
+    left_is_table c.falls.result c.writes-written.result c.write_place-write.result c.settle-settled.new.table c.leave.new.table
     (written_small _ _ _ c.writes-written.result c.writes-written.ensures c.requires.here c.requires.closed)
-    c.write_place-write.ensures.low c.settle-all.ensures.table c.leave.ensures.left
+    c.write_place-write.ensures.low c.settle-settled.ensures.table c.leave.ensures.left
 
 pub returns-clause-apart : goal.returns-clause-apart
 returns-clause-apart c =
@@ -61,21 +62,21 @@ returns-clause-apart c =
 pub places_within-requires-clause-apart : goal.places_within-requires-clause-apart
 places_within-requires-clause-apart c =
     let before = subst (λ set. IsSetOf (LiveIn c.args.code.now c.args.i) set) (sym c.live_in-before.ensures) (c.requires.live.live_in _ c.requires.here) in
-    (row_of c.args.code.now c.args.p c.args.i c.live_in-before.result c.crossing.result c.survivors-stay.result (written_in (slice_get c.args.code.now c.args.i)) c.args.table.now c.settle-all.new.table c.requires.closed c.requires.here
-    (omega arith) (omega arith) (omega arith) before c.crossing.ensures c.survivors-stay.ensures refl c.requires.apart c.settle-all.ensures.given).apart
+    (row_of c.args.code.now c.args.p c.args.i c.live_in-before.result c.crossing.result c.survivors-stay.result (written_in (slice_get c.args.code.now c.args.i)) c.args.table.now c.settle-settled.new.table c.requires.closed c.requires.here
+    (omega arith) (omega arith) (omega arith) before c.crossing.ensures c.survivors-stay.ensures refl c.requires.apart c.settle-settled.ensures.given).apart
 
 pub places_within-requires-clause-within : goal.places_within-requires-clause-within
 places_within-requires-clause-within c =
     let before = subst (λ set. IsSetOf (LiveIn c.args.code.now c.args.i) set) (sym c.live_in-before.ensures) (c.requires.live.live_in _ c.requires.here) in
-    (row_of c.args.code.now c.args.p c.args.i c.live_in-before.result c.crossing.result c.survivors-stay.result (written_in (slice_get c.args.code.now c.args.i)) c.args.table.now c.settle-all.new.table c.requires.closed c.requires.here
-    (omega arith) (omega arith) (omega arith) before c.crossing.ensures c.survivors-stay.ensures refl c.requires.apart c.settle-all.ensures.given).within
+    (row_of c.args.code.now c.args.p c.args.i c.live_in-before.result c.crossing.result c.survivors-stay.result (written_in (slice_get c.args.code.now c.args.i)) c.args.table.now c.settle-settled.new.table c.requires.closed c.requires.here
+    (omega arith) (omega arith) (omega arith) before c.crossing.ensures c.survivors-stay.ensures refl c.requires.apart c.settle-settled.ensures.given).within
 
 pub leave-requires-clause-seats : goal.leave-requires-clause-seats
 leave-requires-clause-seats c =
     let before = subst (λ set. IsSetOf (LiveIn c.args.code.now c.args.i) set) (sym c.live_in-before.ensures) (c.requires.live.live_in _ c.requires.here) in
-    let row = row_of c.args.code.now c.args.p c.args.i c.live_in-before.result c.crossing.result c.survivors-stay.result c.writes-written.result c.args.table.now c.settle-all.new.table c.requires.closed c.requires.here
-    (omega arith) (omega arith) (omega arith) before c.crossing.ensures c.survivors-stay.ensures (written_is _ _ _ c.writes-written.result c.requires.here c.writes-written.ensures) c.requires.apart c.settle-all.ensures.given in record {
-      among = c.settle-all.ensures.among;
+    let row = row_of c.args.code.now c.args.p c.args.i c.live_in-before.result c.crossing.result c.survivors-stay.result c.writes-written.result c.args.table.now c.settle-settled.new.table c.requires.closed c.requires.here
+    (omega arith) (omega arith) (omega arith) before c.crossing.ensures c.survivors-stay.ensures (written_is _ _ _ c.writes-written.result c.requires.here c.writes-written.ensures) c.requires.apart c.settle-settled.ensures.given in record {
+      among = c.settle-settled.ensures.among;
       full = record { full = λ k has. row.full.full k (row.within k has) };
       apart = record { apart = λ k l x has_k has_l. row.apart.apart k l x (row.within k has_k) (row.within l has_l) };
       places = c.places_within.ensures;
@@ -84,5 +85,9 @@ leave-requires-clause-seats c =
 pub leave-requires-clause-alone : goal.leave-requires-clause-alone
 leave-requires-clause-alone c =
     let before = subst (λ set. IsSetOf (LiveIn c.args.code.now c.args.i) set) (sym c.live_in-before.ensures) (c.requires.live.live_in _ c.requires.here) in
-    (row_of c.args.code.now c.args.p c.args.i c.live_in-before.result c.crossing.result c.survivors-stay.result c.writes-written.result c.args.table.now c.settle-all.new.table c.requires.closed c.requires.here
-    (omega arith) (omega arith) (omega arith) before c.crossing.ensures c.survivors-stay.ensures (written_is _ _ _ c.writes-written.result c.requires.here c.writes-written.ensures) c.requires.apart c.settle-all.ensures.given).alone
+    (row_of c.args.code.now c.args.p c.args.i c.live_in-before.result c.crossing.result c.survivors-stay.result c.writes-written.result c.args.table.now c.settle-settled.new.table c.requires.closed c.requires.here
+    (omega arith) (omega arith) (omega arith) before c.crossing.ensures c.survivors-stay.ensures (written_is _ _ _ c.writes-written.result c.requires.here c.writes-written.ensures) c.requires.apart c.settle-settled.ensures.given).alone
+
+pub returns-clause-stood : goal.returns-clause-stood
+returns-clause-stood c = λ stood.
+    had_places c.args.table.now c.settle-settled.new.table (members 128 c.live_in-before.result) c.in_ok-listed.listed c.in_ok-listed.ensures (c.settle-settled.ensures.stood stood)

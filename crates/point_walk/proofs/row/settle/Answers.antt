@@ -21,3 +21,8 @@ pub returns-then-stands-clause-places : goal.returns-then-stands-clause-places
 returns-then-stands-clause-places c =
     (row_stands c.args.p c.args.before c.args.cross c.places_within-places.result c.args.seats c.args.table.now c.clear.new.table (omega arith) (omega arith) c.requires.wishes c.requires.seats c.requires.crossing
     (c.stands.ensures.below c.if-stands.true) (c.stands.ensures.own c.if-stands.true) c.places_within-places.ensures c.clear.ensures).places
+
+pub returns-then-stands-clause-stood : goal.returns-then-stands-clause-stood
+returns-then-stands-clause-stood c = λ on.
+    (row_stands c.args.p c.args.before c.args.cross c.places_within-places.result c.args.seats c.args.table.now c.clear.new.table (omega arith) (omega arith) c.requires.wishes c.requires.seats c.requires.crossing
+    (c.stands.ensures.below c.if-stands.true) (c.stands.ensures.own c.if-stands.true) c.places_within-places.ensures c.clear.ensures).stood

@@ -21,3 +21,6 @@ walk_rows-requires-clause-room c = (
   c.requires.order,
   rw c.as_slice.ensures (room_of c.args.program.now.code c.args.p c.args.r c.requires.private c.requires.total),
 )
+
+pub returns-in-Ok-clause-settled : goal.returns-in-Ok-clause-settled
+returns-in-Ok-clause-settled c = λ settled. rw (← c.as_slice.ensures) (c.in-Ok.ensures.settled settled)

@@ -1,6 +1,8 @@
-use Rattle.std.proofs.Common.{refl, sym, ◌∙◌}
+use Rattle.std.proofs.Common.{List, slice_get, refl, sym, ap, ◌∙◌}
 use Rattle.point_walk.proofs.Beyond.{walked_more}
+use Rattle.plan.specs.declared.row.PlanRow.{PlanRow}
 use Rattle.point_walk.proofs.Seated.{no_seats}
+use Rattle.point_walk.proofs.Settled.{settled_more}
 use Rattle.point_walk.proofs.Slots.{nothing_is_table, nothing_has}
 use Rattle.point_walk.proofs.walking.walk_rows.Goals as goal
 use Rattle.point_walk.proofs.walking.walk_rows.Goals.{then-lasting, else-lasting}
@@ -17,6 +19,7 @@ rows-init c = record {
   };
   walked = (c.reserve.ensures ∙ c.new-rows.ensures, refl);
   lasting = λ lasts q order. (c.reserve.ensures ∙ c.new-rows.ensures, refl);
+  settled = λ on i falls row next is_row is_next. absurd (let none = ap (λ (s : List PlanRow). slice_get s i) (c.reserve.ensures ∙ c.new-rows.ensures) in cc);
 }
 
 pub rows-preserved : goal.rows-preserved
@@ -25,11 +28,14 @@ rows-preserved c = record {
   seats = c.in_ok-row.ensures.seats;
   apart = c.in_ok-row.ensures.apart;
   walked =
-      walked_more c.args.code.now c.args.p c.rows.i c.rows.rows c.push.new.self c.rows.wishes c.next_row.new.table c.in_ok-row.row c.rows.invariant.walked c.in_ok-row.ensures.follows c.in-Ok.ensures.ok;
+      walked_more c.args.code.now c.args.p c.rows.i c.rows.rows c.push.new.self c.rows.wishes c.next_row.new.table c.in_ok-row.field-0.row c.rows.invariant.walked c.in_ok-row.ensures.follows c.in-Ok.ensures.ok;
   lasting = elim c.if-lasting.branch [
     | then-lasting w ↦ λ all q order.
-        walked_more c.args.code.now q c.rows.i c.rows.rows c.push.new.self c.rows.wishes c.next_row.new.table c.in_ok-row.row (c.rows.invariant.lasting w.if-lasting.true q order)
-        (c.lasts-lasts.ensures (sym w.lasting-is ∙ all) q c.in_ok-row.row c.next_row.new.table order c.in_ok-row.ensures.follows) c.in-Ok.ensures.ok
+        walked_more c.args.code.now q c.rows.i c.rows.rows c.push.new.self c.rows.wishes c.next_row.new.table c.in_ok-row.field-0.row (c.rows.invariant.lasting w.if-lasting.true q order)
+        (c.lasts-lasts.ensures (sym w.lasting-is ∙ all) q c.in_ok-row.field-0.row c.next_row.new.table order c.in_ok-row.ensures.follows) c.in-Ok.ensures.ok
     | else-lasting w ↦ λ all. absurd (let off = w.lasting-is in cc)
   ];
+  settled = λ on.
+      settled_more c.args.code.now c.args.p c.rows.i c.rows.rows c.push.new.self c.in_ok-row.field-0.row c.rows.wishes c.next_row.new.table c.in_ok-row.field-0.stood c.requires.closed c.rows.invariant.table
+      c.rows.invariant.walked c.in_ok-row.ensures.follows c.in-Ok.ensures.ok c.in_ok-row.ensures.stood (c.stays_settled-settled.ensures.here on) (c.rows.invariant.settled (c.stays_settled-settled.ensures.before on));
 }

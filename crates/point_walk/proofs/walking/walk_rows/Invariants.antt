@@ -2,6 +2,7 @@ use Rattle.std.proofs.Common.{◌≡◌, ◌≤◌, ℕ, true}
 use Rattle.point_walk.specs.Walks.{Walked}
 use Rattle.point_walk.specs.Tables.{IsTable}
 use Rattle.point_walk.specs.Keeping.{AreSeats, HasWishes}
+use Rattle.point_walk.specs.Settling.{FallsStill}
 use Rattle.point_walk.proofs.walking.walk_rows.Given as goal
 
 abbrev pub invariant-rows : goal.invariant-rows
@@ -11,4 +12,5 @@ invariant-rows l = record {
   apart : HasWishes l.code l.p l.i l.wishes;
   walked : Walked l.code l.p l.i l.rows l.wishes;
   lasting : l.lasting ≡ true → (q : ℕ) → l.p ≤ q → Walked l.code q l.i l.rows l.wishes;
+  settled : l.settled ≡ true → FallsStill l.code (record { p = l.p; r = l.p; rows = l.rows });
 }
