@@ -1,9 +1,13 @@
 -- A walk with more private places: a row at which no register that crosses wishes for a place at or above p is the same with more private places.
-use Rattle.std.proofs.Common.{◌≡◌, ℕ, ◌+◌, ◌<◌, ◌≤◌, List, [], ◌∷◌, ◌++◌, Option, Some, None, add-one, sym, subst, arith}
+use Rattle.std.proofs.Common.{◌≡◌, ℕ, ◌+◌, ◌<◌, ◌≤◌, ◌^◌, List, [], ◌∷◌, ◌++◌, Option, Some, None, add-one, sym, subst, arith}
 use Rattle.micro_isa.specs.declared.program.Line.{Line}
+use Rattle.liveness.specs.Sets.{IsSetOf, members}
+use Rattle.liveness.specs.Surviving.{Crosses}
+use Rattle.liveness.proofs.Members.{listed}
 use Rattle.plan.specs.declared.row.PlanRow.{PlanRow}
 use Rattle.point_walk.specs.Keeping.{AreLow}
 use Rattle.point_walk.specs.Walks.{Table, place_at, nothing, WishBelow, StepsFrom, Stage, AreGiven, Follows, Walked}
+use Rattle.point_walk.proofs.Rising.{lists_once}
 
 module _ (p q : ℕ) (order : p ≤ q) (wishes : Table) where
   below_too : (table : Table) (k : ℕ) (o : Option ℕ) → ((x : ℕ) → place_at wishes k ≡ Some x → x < p) → WishBelow p wishes table k o → WishBelow q wishes table k o
@@ -29,7 +33,7 @@ module _ (p q : ℕ) (order : p ≤ q) (wishes : Table) where
     fourth = given.fourth;
   }
 
-  pub follows_too : (code : List Line) (i : ℕ) (row : PlanRow) (left : Table) (follows : Follows code p i wishes row left) → AreLow p wishes follows.cross → Follows code q i wishes row left
+  follows_too : (code : List Line) (i : ℕ) (row : PlanRow) (left : Table) (follows : Follows code p i wishes row left) → AreLow p wishes follows.cross → Follows code q i wishes row left
   follows_too code i row left follows low = record {
     before = follows.before;
     cross = follows.cross;
@@ -43,6 +47,12 @@ module _ (p q : ℕ) (order : p ≤ q) (wishes : Table) where
     write = follows.write;
     leaves = follows.leaves;
   }
+
+pub follows_low : (code : List Line) (p q i cross : ℕ) (row : PlanRow) (wishes left : Table) → cross < 2 ^ 128 → IsSetOf (Crosses code i) cross → p ≤ q → AreLow p wishes (members 128 cross)
+    → Follows code p i wishes row left → Follows code q i wishes row left
+follows_low code p q i cross row wishes left small is order low follows =
+    let same = lists_once (Crosses code i) (members 128 cross) follows.cross (listed (Crosses code i) cross small is) follows.is_cross in
+    follows_too p q order wishes code i row left follows (subst (AreLow p wishes) same low)
 
 -- one row more
 pub walked_more : (code : List Line) (p i : ℕ) (rows more : List PlanRow) (wishes left : Table) (row : PlanRow) → Walked code p i rows wishes → Follows code p i wishes row left → more ≡ rows ++ row ∷ []

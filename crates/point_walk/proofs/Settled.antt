@@ -3,7 +3,7 @@ use Rattle.std.proofs.Common.{◌≡◌, ℕ, zero, suc, ◌+◌, ◌<◌, Bool,
 use Rattle.std.specs.Prelude.{slice_get, if◌then◌else◌}
 use Rattle.std.proofs.lemmas.Bool.{cases_eq}
 use Rattle.std.proofs.lemmas.List.{length-append, length-set, get_or_append_left}
-use Rattle.std.proofs.lemmas.Option.{same_Some, slice_get_within, slice_get-get_or, get_or_from_slice_get}
+use Rattle.std.proofs.lemmas.Option.{slice_get_within, slice_get-get_or, get_or_from_slice_get}
 use Rattle.std.proofs.Math.Seq.{get_or-append_seam}
 use Rattle.micro_isa.specs.declared.program.Line.{Line}
 use Rattle.micro_isa.specs.declared.program.VReg.{VReg}
@@ -13,9 +13,7 @@ use Rattle.liveness.specs.Surviving.{WritesAt, Stays}
 use Rattle.liveness.proofs.Steps.{stays_live}
 use Rattle.plan.specs.declared.row.Place.{Place}
 use Rattle.plan.specs.declared.row.PlanRow.{PlanRow}
-use Rattle.plan.specs.declared.row.Plan.{Plan}
 use Rattle.plan.specs.ValidPlans.{registers_of, place_in}
-use Rattle.plan.specs.Moving.{MovesNothing}
 use Rattle.plan.proofs.Entries.{placed}
 use Rattle.point_walk.specs.Walks.{Table, nothing, place_at, place_or_zero, entries, written_in, falls_in, put, Follows, Walked}
 use Rattle.point_walk.specs.Tables.{IsTable}

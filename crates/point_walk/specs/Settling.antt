@@ -1,5 +1,5 @@
 -- Walks in which no register moves where an instruction falls through to the next.
-use Rattle.std.specs.Prelude.{ℕ, ◌≡◌, ◌+◌, List, Option, Some, true, slice_get}
+use Rattle.std.specs.Prelude.{ℕ, ◌≡◌, ◌+◌, List, Some, true, slice_get}
 use Rattle.std.specs.List.{Contains}
 use Rattle.micro_isa.specs.declared.program.Line.{Line}
 use Rattle.plan.specs.declared.row.Place.{Place}

@@ -2,7 +2,8 @@ ghost use Rattle.std.specs.Prelude.{ℕ, [], ◌≡◌, ◌+◌, ◌<◌, ◌≤
 ghost use Rattle.std.specs.List.{Contains};
 ghost use Rattle.flow_graph.specs.Paths.{IsClosedCode, IsSmall};
 ghost use Rattle.liveness.specs.Lives.{IsLiveOf};
-ghost use Rattle.liveness.specs.Sets.{members};
+ghost use Rattle.liveness.specs.Sets.{IsSetOf, members};
+ghost use Rattle.liveness.specs.Surviving.{Crosses};
 ghost use Rattle.point_walk.specs.Walks.{falls_in, IsWritePlace, IsPlaceFor, place_at, place_or_zero, nothing, put, entries, Follows, AreGiven};
 ghost use Rattle.point_walk.specs.Tables.{IsTable, IsTaken, ArePlacesOf};
 ghost use Rattle.point_walk.specs.Keeping.{AreAmong, AreSeats, HasWishes, IsAlone};
@@ -12,7 +13,7 @@ use crate::giving::{least_free, place_set};
 use crate::keeping::{clear, stands};
 use crate::seats::{Seats, places_within};
 use crate::stage::{fill, grant_below, grant_free};
-use liveness::{Live, crossing, register_set, survivors, take_least};
+use liveness::{Live, register_set, survivors, take_least};
 use micro_isa::{Line, List, MOST_FILE, MOST_REGISTERS, NoMemory, VReg, successors, writes};
 use plan::{Place, PlanRow};
 
@@ -23,13 +24,15 @@ pub struct Step {
     pub stood: bool,
 }
 
-/// The row of instruction `i`, given the wishes from the row before and who has them; leaves those
-/// for the next. Its places stand in the memory of the empty list.
+/// The row of instruction `i`, at which the registers of `cross` cross, given the wishes from the row
+/// before and who has them; leaves those for the next. Its places stand in the memory of the empty
+/// list.
 pub fn next_row(
     empty: List<Place>,
     code: &[Line],
     live: &Live,
     i: usize,
+    cross: u128,
     p: u32,
     table: &mut [Option<u8>],
     seats: &mut Seats,
@@ -39,6 +42,7 @@ pub fn next_row(
     requires closed { IsClosedCode code.now }
     requires live { IsLiveOf code.now live.now }
     requires here { i < length code.now }
+    requires crossing { IsSetOf (Crosses code.now i) cross }
     requires wishes { IsTable table.old }
     requires seats { AreSeats table.old seats.old }
     requires apart { HasWishes code.now p i table.old }
@@ -50,7 +54,7 @@ pub fn next_row(
 {
     let before = live.live_in(i as u32);
     let stay = survivors(code, live, i);
-    let settled = settle(before, crossing(code, live, i), p, *seats, table);
+    let settled = settle(before, cross, p, *seats, table);
     let kept = Seats {
         held: before,
         own: stay,

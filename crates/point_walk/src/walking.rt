@@ -3,10 +3,8 @@ ghost use Rattle.flow_graph.specs.Paths.{IsClosedCode};
 ghost use Rattle.liveness.specs.Lives.{IsLiveOf};
 ghost use Rattle.liveness.specs.Pressures.{HasRoom, IsPrivatePressure, IsTotalPressure};
 ghost use Rattle.plan.specs.declared.row.Plan.{Plan as PlanModel};
-ghost use Rattle.plan.specs.declared.row.PlanRow.{PlanRow as RowModel};
 ghost use Rattle.plan.specs.ValidPlans.{IsValidPlan};
-ghost use Rattle.point_walk.specs.Walks.{IsWalk, AreWalked, Follows, Table, falls_in};
-ghost use Rattle.point_walk.specs.Tables.{IsTable};
+ghost use Rattle.point_walk.specs.Walks.{IsWalk, AreWalked, falls_in};
 ghost use Rattle.point_walk.specs.Lasting.{IsLasting};
 ghost use Rattle.point_walk.specs.Settling.{FallsStill, IsSettled};
 
@@ -121,13 +119,15 @@ fn walk_rows(
     let mut lasting = true;
     let mut settled = true;
     'rows: for i in 0..code.len() {
-        let lasts = lasts(code, live, i, p, &wishes);
+        let cross = crossing(code, live, i);
+        let lasts = are_low(cross, p, &wishes);
         let empty = spare_list(alloc, spare, i);
         let Step { row, stood } = next_row(
             empty,
             code,
             live,
             i,
+            cross,
             p,
             &mut wishes,
             &mut seats,
@@ -154,16 +154,4 @@ fn stays_settled(code: &[Line], i: usize, settled: bool, stood: bool) -> bool
     ensures here { result ≡ true → stood ≡ false → (j : ℕ) → j + 1 ≡ i → falls_in j (slice_get code.now j) ≡ false }
 {
     settled && (stood || !falls_to(code, i))
-}
-
-/// Whether row `i` is the same with more private places: no register that crosses wishes for one of
-/// those.
-fn lasts(code: &[Line], live: &Live, i: usize, p: u32, wishes: &[Option<u8>]) -> bool
-    requires closed { IsClosedCode code.now }
-    requires live { IsLiveOf code.now live.now }
-    requires here { i < length code.now }
-    requires wishes { IsTable wishes.now }
-    ensures { result ≡ true → (q : ℕ) (row : RowModel) (left : Table) → p ≤ q → Follows code.now p i wishes.now row left → Follows code.now q i wishes.now row left }
-{
-    are_low(crossing(code, live, i), p, wishes)
 }

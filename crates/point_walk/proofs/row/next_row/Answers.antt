@@ -17,7 +17,7 @@ pub settle-settled-requires-clause-crossing : goal.settle-settled-requires-claus
 settle-settled-requires-clause-crossing c = λ k has.
     let before = subst (λ set. IsSetOf (LiveIn c.args.code.now c.args.i) set) (sym c.live_in-before.ensures) (c.requires.live.live_in _ c.requires.here) in
     let is_before = listed (LiveIn c.args.code.now c.args.i) c.live_in-before.result (omega arith) before in
-    let is_cross = listed (Crosses c.args.code.now c.args.i) c.crossing.result (omega arith) c.crossing.ensures in
+    let is_cross = listed (Crosses c.args.code.now c.args.i) c.args.cross (omega arith) c.requires.crossing in
     (is_before.exact k).1 (crosses_live c.args.code.now c.args.i k ((is_cross.exact k).0 has))
 
 pub write_place-write-requires-clause-small : goal.write_place-write-requires-clause-small
@@ -31,11 +31,11 @@ returns-clause-follows c =
     let before = subst (λ set. IsSetOf (LiveIn c.args.code.now c.args.i) set) (sym c.live_in-before.ensures) (c.requires.live.live_in _ c.requires.here) in
     let written = written_is _ _ _ c.writes-written.result c.requires.here c.writes-written.ensures in record {
       before = members 128 c.live_in-before.result;
-      cross = members 128 c.crossing.result;
+      cross = members 128 c.args.cross;
       stay = members 128 c.survivors-stay.result;
       table = c.settle-settled.new.table;
       is_before = listed (LiveIn c.args.code.now c.args.i) c.live_in-before.result (omega arith) before;
-      is_cross = listed (Crosses c.args.code.now c.args.i) c.crossing.result (omega arith) c.crossing.ensures;
+      is_cross = listed (Crosses c.args.code.now c.args.i) c.args.cross (omega arith) c.requires.crossing;
       is_stay = listed (Stays c.args.code.now c.args.i) c.survivors-stay.result (omega arith) c.survivors-stay.ensures;
       given = c.settle-settled.ensures.given;
       places = c.in_ok-listed.ensures;
@@ -62,20 +62,20 @@ returns-clause-apart c =
 pub places_within-requires-clause-apart : goal.places_within-requires-clause-apart
 places_within-requires-clause-apart c =
     let before = subst (λ set. IsSetOf (LiveIn c.args.code.now c.args.i) set) (sym c.live_in-before.ensures) (c.requires.live.live_in _ c.requires.here) in
-    (row_of c.args.code.now c.args.p c.args.i c.live_in-before.result c.crossing.result c.survivors-stay.result (written_in (slice_get c.args.code.now c.args.i)) c.args.table.now c.settle-settled.new.table c.requires.closed c.requires.here
-    (omega arith) (omega arith) (omega arith) before c.crossing.ensures c.survivors-stay.ensures refl c.requires.apart c.settle-settled.ensures.given).apart
+    (row_of c.args.code.now c.args.p c.args.i c.live_in-before.result c.args.cross c.survivors-stay.result (written_in (slice_get c.args.code.now c.args.i)) c.args.table.now c.settle-settled.new.table c.requires.closed c.requires.here
+    (omega arith) (omega arith) (omega arith) before c.requires.crossing c.survivors-stay.ensures refl c.requires.apart c.settle-settled.ensures.given).apart
 
 pub places_within-requires-clause-within : goal.places_within-requires-clause-within
 places_within-requires-clause-within c =
     let before = subst (λ set. IsSetOf (LiveIn c.args.code.now c.args.i) set) (sym c.live_in-before.ensures) (c.requires.live.live_in _ c.requires.here) in
-    (row_of c.args.code.now c.args.p c.args.i c.live_in-before.result c.crossing.result c.survivors-stay.result (written_in (slice_get c.args.code.now c.args.i)) c.args.table.now c.settle-settled.new.table c.requires.closed c.requires.here
-    (omega arith) (omega arith) (omega arith) before c.crossing.ensures c.survivors-stay.ensures refl c.requires.apart c.settle-settled.ensures.given).within
+    (row_of c.args.code.now c.args.p c.args.i c.live_in-before.result c.args.cross c.survivors-stay.result (written_in (slice_get c.args.code.now c.args.i)) c.args.table.now c.settle-settled.new.table c.requires.closed c.requires.here
+    (omega arith) (omega arith) (omega arith) before c.requires.crossing c.survivors-stay.ensures refl c.requires.apart c.settle-settled.ensures.given).within
 
 pub leave-requires-clause-seats : goal.leave-requires-clause-seats
 leave-requires-clause-seats c =
     let before = subst (λ set. IsSetOf (LiveIn c.args.code.now c.args.i) set) (sym c.live_in-before.ensures) (c.requires.live.live_in _ c.requires.here) in
-    let row = row_of c.args.code.now c.args.p c.args.i c.live_in-before.result c.crossing.result c.survivors-stay.result c.writes-written.result c.args.table.now c.settle-settled.new.table c.requires.closed c.requires.here
-    (omega arith) (omega arith) (omega arith) before c.crossing.ensures c.survivors-stay.ensures (written_is _ _ _ c.writes-written.result c.requires.here c.writes-written.ensures) c.requires.apart c.settle-settled.ensures.given in record {
+    let row = row_of c.args.code.now c.args.p c.args.i c.live_in-before.result c.args.cross c.survivors-stay.result c.writes-written.result c.args.table.now c.settle-settled.new.table c.requires.closed c.requires.here
+    (omega arith) (omega arith) (omega arith) before c.requires.crossing c.survivors-stay.ensures (written_is _ _ _ c.writes-written.result c.requires.here c.writes-written.ensures) c.requires.apart c.settle-settled.ensures.given in record {
       among = c.settle-settled.ensures.among;
       full = record { full = λ k has. row.full.full k (row.within k has) };
       apart = record { apart = λ k l x has_k has_l. row.apart.apart k l x (row.within k has_k) (row.within l has_l) };
@@ -85,8 +85,8 @@ leave-requires-clause-seats c =
 pub leave-requires-clause-alone : goal.leave-requires-clause-alone
 leave-requires-clause-alone c =
     let before = subst (λ set. IsSetOf (LiveIn c.args.code.now c.args.i) set) (sym c.live_in-before.ensures) (c.requires.live.live_in _ c.requires.here) in
-    (row_of c.args.code.now c.args.p c.args.i c.live_in-before.result c.crossing.result c.survivors-stay.result c.writes-written.result c.args.table.now c.settle-settled.new.table c.requires.closed c.requires.here
-    (omega arith) (omega arith) (omega arith) before c.crossing.ensures c.survivors-stay.ensures (written_is _ _ _ c.writes-written.result c.requires.here c.writes-written.ensures) c.requires.apart c.settle-settled.ensures.given).alone
+    (row_of c.args.code.now c.args.p c.args.i c.live_in-before.result c.args.cross c.survivors-stay.result c.writes-written.result c.args.table.now c.settle-settled.new.table c.requires.closed c.requires.here
+    (omega arith) (omega arith) (omega arith) before c.requires.crossing c.survivors-stay.ensures (written_is _ _ _ c.writes-written.result c.requires.here c.writes-written.ensures) c.requires.apart c.settle-settled.ensures.given).alone
 
 pub returns-clause-stood : goal.returns-clause-stood
 returns-clause-stood c = λ stood.

@@ -1,5 +1,5 @@
-use Rattle.std.proofs.Common.{List, slice_get, refl, sym, ap, ◌∙◌}
-use Rattle.point_walk.proofs.Beyond.{walked_more}
+use Rattle.std.proofs.Common.{List, slice_get, refl, sym, ap, ◌∙◌, arith}
+use Rattle.point_walk.proofs.Beyond.{follows_low, walked_more}
 use Rattle.plan.specs.declared.row.PlanRow.{PlanRow}
 use Rattle.point_walk.proofs.Seated.{no_seats}
 use Rattle.point_walk.proofs.Settled.{settled_more}
@@ -32,7 +32,7 @@ rows-preserved c = record {
   lasting = elim c.if-lasting.branch [
     | then-lasting w ↦ λ all q order.
         walked_more c.args.code.now q c.rows.i c.rows.rows c.push.new.self c.rows.wishes c.next_row.new.table c.in_ok-row.field-0.row (c.rows.invariant.lasting w.if-lasting.true q order)
-        (c.lasts-lasts.ensures (sym w.lasting-is ∙ all) q c.in_ok-row.field-0.row c.next_row.new.table order c.in_ok-row.ensures.follows) c.in-Ok.ensures.ok
+        (follows_low c.args.code.now c.args.p q c.rows.i c.crossing-cross.result c.in_ok-row.field-0.row c.rows.wishes c.next_row.new.table (omega arith) c.crossing-cross.ensures order (c.are_low-lasts.ensures (sym w.lasting-is ∙ all)) c.in_ok-row.ensures.follows) c.in-Ok.ensures.ok
     | else-lasting w ↦ λ all. absurd (let off = w.lasting-is in cc)
   ];
   settled = λ on.
