@@ -3,3 +3,4 @@ pub mod Lists
 pub mod Places
 pub mod Checked
 pub mod Enough
+pub mod Flattened

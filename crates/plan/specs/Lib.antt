@@ -2,3 +2,5 @@ pub mod ValidPlans
 pub mod Faults
 pub mod Finding
 pub mod Moving
+pub mod Rows
+pub mod Flat
