@@ -17,6 +17,7 @@ use Rattle.liveness.specs.Sets.{IsSetOf, members}
 use Rattle.liveness.proofs.Visits.{live_small}
 use Rattle.plan.specs.declared.row.Place.{Place}
 use Rattle.plan.specs.declared.row.PlanRow.{PlanRow}
+use Rattle.plan.specs.declared.row.Plan.{Plan}
 use Rattle.plan.specs.ValidPlans.{registers_of}
 use Rattle.range_colour.specs.declared.fit.Fit.{Fit}
 use Rattle.range_colour.specs.Fits.{IsFit, places_in}
@@ -92,4 +93,5 @@ whole_tells code live fit p r closed is fits order few = by (fits_test fit p r) 
     by false e = whole_none code fit p r fits order few e
     by true e =
         let rows = rows_there code live (λ i. slice_index (places_in fit)) closed is in
-        (record { p = p; r = r; rows = rows.0 }, whole_some code fit p r fits order few e rows.0 rows.1)
+        let plan : Plan = record { p = p; r = r; rows = rows.0 } in
+        (plan, whole_some code fit p r fits order few e plan (record { private = refl; all = refl; rows = rows.1 }))

@@ -45,7 +45,7 @@ moved_cell code live fits p r closed is made whole order few out walk false test
 moved_cell code live fits p r closed is made whole order few out walk true test =
     let rows = rows_there code live (λ i. slice_index (places_for fits.division fits.regions i)) closed is in
     let plan : Plan = record { p = p; r = r; rows = rows.0 } in
-    let fit = region_some code fits.division made.division fits.regions (all_fits code fits made whole) p r order few test rows.0 rows.1 in
+    let fit = region_some code fits.division made.division fits.regions (all_fits code fits made whole) p r order few test plan (record { private = refl; all = refl; rows = rows.1 }) in
     let least : min (glue_of code plan) 0 ≡ 0 = omega arith in
     subst (Costs code p r) least (lesser_cell code p r (Some (glue_of code plan)) 0 out (plan, fit, refl) (λ e. absurd (cc)) walk)
 

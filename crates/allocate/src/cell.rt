@@ -14,12 +14,12 @@ ghost use Rattle.allocate.specs.Tables.{IsCellPlan, IsPriced, IsWalkPlanned};
 
 use crate::dearer::tell_dearer;
 use crate::fits::{Fits, are_all_there};
-use crate::priced::{PricedWalk, rows_in, serves, spare_rows};
+use crate::priced::{PricedWalk, plan_in, room_of, serves};
 use budget::SIZES;
-use emit::glue;
+use emit::flat_glue;
 use liveness::Live;
 use micro_isa::{MOST_FILE, NoMemory, Program};
-use plan::{Plan, PlanRow};
+use plan::FlatPlan;
 use point_walk::{Route, walk_route};
 use pressure::Regions;
 use range_colour::{Fit, fit_plan, region_fits, region_plan};
@@ -28,7 +28,7 @@ use std::alloc::Global;
 /// A plan, and how many glue words it has.
 #[derive(Drop)]
 pub(crate) struct Planned {
-    pub plan: Plan,
+    pub plan: FlatPlan,
     pub cost: u32,
 }
 
@@ -44,7 +44,7 @@ pub(crate) fn cell(
     from: u32,
     j: u32,
     p: u32,
-) -> Result<Plan, NoMemory>
+) -> Result<FlatPlan, NoMemory>
     requires closed { IsClosedCode program.now.code }
     requires live { IsLiveOf program.now.code live.now }
     requires fits { AreFitsOf program.now.code fits.now }
@@ -59,8 +59,8 @@ pub(crate) fn cell(
 {
     if fits.whole.fits(p, from + j) {
         let code = program.code.as_slice();
-        let mut spare = spare_rows(alloc, walk);
-        return fit_plan(alloc, code, live, &fits.whole, p, from + j, &mut spare);
+        let room = room_of(alloc, walk);
+        return fit_plan(code, live, &fits.whole, p, from + j, room);
     }
     let walked = walked(alloc, program, live, walk, from, j, p)?;
     lesser(alloc, program, live, fits, walked, p, from + j)
@@ -76,7 +76,7 @@ fn lesser(
     walked: Planned,
     p: u32,
     r: u32,
-) -> Result<Plan, NoMemory>
+) -> Result<FlatPlan, NoMemory>
     requires closed { IsClosedCode program.now.code }
     requires live { IsLiveOf program.now.code live.now }
     requires fits { AreFitsOf program.now.code fits.now }
@@ -110,7 +110,7 @@ fn lesser_by(
     walked: Planned,
     p: u32,
     r: u32,
-) -> Result<Plan, NoMemory>
+) -> Result<FlatPlan, NoMemory>
     requires closed { IsClosedCode program.now.code }
     requires live { IsLiveOf program.now.code live.now }
     requires division { AreRegionsOf program.now.code division.now }
@@ -133,11 +133,11 @@ fn lesser_by(
 fn lesser_of(
     alloc: Global,
     program: &Program,
-    fitted: Plan,
+    fitted: FlatPlan,
     walked: Planned,
     p: u32,
     r: u32,
-) -> Result<Plan, NoMemory>
+) -> Result<FlatPlan, NoMemory>
     requires closed { IsClosedCode program.now.code }
     requires out { IsWholeFit program.now.code p r None }
     requires fit { IsRegionFit program.now.code p r (Some fitted) }
@@ -146,7 +146,7 @@ fn lesser_of(
     ensures cell { IfOk result (IsCellPlan program.now.code p r) }
     ensures valid { IfOk result (IsValidPlan program.now.code) }
 {
-    let cost = glue(alloc, program, &fitted)?;
+    let cost = flat_glue(alloc, program, &fitted)?;
     if cost <= walked.cost {
         Ok(fitted)
     } else {
@@ -177,18 +177,18 @@ fn walked(
 {
     match served(alloc, kept, from, j, p) {
         Ok(planned) => Ok(planned),
-        Err(mut spare) => walked_anew(alloc, program, live, p, from + j, &mut spare),
+        Err(room) => walked_anew(alloc, program, live, p, from + j, room),
     }
 }
 
-/// The walk by the rows that were kept, if they serve; else these rows.
+/// The walk by the rows that were kept, if they serve; else room for another.
 fn served(
     alloc: Global,
     kept: Option<PricedWalk>,
     from: u32,
     j: u32,
     p: u32,
-) -> Result<Planned, Vec<PlanRow>>
+) -> Result<Planned, FlatPlan>
     requires within { j < SIZES }
     requires few { from + j ≤ MOST_FILE }
     ensures { (code : Sequence CodeLine) → IsClosedCode code → ((n : ℕ) × IsPrivatePressure code n × (n ≤ p)) → ((n : ℕ) × IsTotalPressure code n × (n ≤ from + j)) → p ≤ from + j
@@ -196,28 +196,23 @@ fn served(
 {
     match kept {
         Some(walk) => served_by(walk, from, j, p),
-        None => Err(Vec::new(alloc)),
+        None => Err(FlatPlan::new(alloc)),
     }
 }
 
-fn served_by(walk: PricedWalk, from: u32, j: u32, p: u32) -> Result<Planned, Vec<PlanRow>>
+fn served_by(walk: PricedWalk, from: u32, j: u32, p: u32) -> Result<Planned, FlatPlan>
     requires within { j < SIZES }
     requires few { from + j ≤ MOST_FILE }
     ensures { (code : Sequence CodeLine) → IsClosedCode code → ((n : ℕ) × IsPrivatePressure code n × (n ≤ p)) → ((n : ℕ) × IsTotalPressure code n × (n ≤ from + j)) → p ≤ from + j
         → IsPriced code from walk → IfOk result (IsWalkPlanned code p (from + j)) }
 {
     if !serves(&walk, p) {
-        return Err(rows_in(walk));
+        return Err(plan_in(walk));
     }
     let PricedWalk { route, costs } = walk;
     let Route { plan, .. } = route;
-    let Plan { rows, .. } = plan;
     Ok(Planned {
-        plan: Plan {
-            p,
-            r: from + j,
-            rows,
-        },
+        plan: plan.resized(p, from + j),
         cost: costs[j as usize],
     })
 }
@@ -229,7 +224,7 @@ fn walked_anew(
     live: &Live,
     p: u32,
     r: u32,
-    spare: &mut [PlanRow],
+    room: FlatPlan,
 ) -> Result<Planned, NoMemory>
     requires closed { IsClosedCode program.now.code }
     requires live { IsLiveOf program.now.code live.now }
@@ -239,7 +234,7 @@ fn walked_anew(
     requires few { r ≤ MOST_FILE }
     ensures { IfOk result (IsWalkPlanned program.now.code p r) }
 {
-    let Route { plan, .. } = walk_route(alloc, program, live, p, r, spare)?;
-    let cost = glue(alloc, program, &plan)?;
+    let Route { plan, .. } = walk_route(program, live, p, r, room)?;
+    let cost = flat_glue(alloc, program, &plan)?;
     Ok(Planned { plan, cost })
 }

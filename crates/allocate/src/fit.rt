@@ -14,6 +14,7 @@ ghost use Rattle.allocate.specs.Allocations.{IsAllocation, HasOneAllocation, IsE
 
 use crate::allocation::{AllocFault, Allocation};
 use crate::analysis::{lives_of, pressures_of};
+use crate::flat::FlatAllocation;
 use crate::kept::Kept;
 use crate::planning::plans_of;
 use crate::priced::PricedWalk;
@@ -23,15 +24,32 @@ use budget::{Budget, BudgetFault, CostTable, balance};
 use emit::emit_counted;
 use liveness::Live;
 use micro_isa::{Bundle, List, MOST_CONTEXTS, MOST_FILE, NoMemory};
-use plan::Plan;
+use plan::FlatPlan;
 use pressure::{Pressure, need};
 use std::alloc::Global;
 
 /// The allocation of a bundle, with the budget that is preferred. It is refused exactly where its
 /// contexts need more registers than its file has. A bundle has one allocation at most, and its image
 /// does what the bundle does. Its glue is what the budget costs.
-#[tactic(auto, using(crate::proofs::Once::one_allocation))]
 pub fn allocate(alloc: Global, bundle: &Bundle) -> Result<Allocation, AllocFault>
+    requires { IsFormedBundle bundle.now }
+    ensures allocation { IfOk result (IsAllocation bundle.now) }
+    ensures emitted { IfOk result (λ a. IsEmitted bundle.now a.plans a.budget a.image) }
+    ensures fault { IfErr result (TellsFault bundle.now) }
+    ensures once { HasOneAllocation bundle.now }
+    ensures even { IfOk result IsEven }
+    ensures still { IfOk result (IsStill bundle.now) }
+{
+    let flat = allocate_flat(alloc, bundle)?;
+    match flat.listed(alloc) {
+        Ok(allocation) => Ok(allocation),
+        Err(NoMemory) => Err(AllocFault::NoMemory),
+    }
+}
+
+/// The same allocation, for a caller that wants its image more than its plans, which are kept flat.
+#[tactic(auto, using(crate::proofs::Once::one_allocation))]
+pub fn allocate_flat(alloc: Global, bundle: &Bundle) -> Result<FlatAllocation, AllocFault>
     requires { IsFormedBundle bundle.now }
     ensures allocation { IfOk result (IsAllocation bundle.now) }
     ensures emitted { IfOk result (λ a. IsEmitted bundle.now a.plans a.budget a.image) }
@@ -66,7 +84,7 @@ fn analysed(alloc: Global, bundle: &Bundle) -> Result<Analysis, NoMemory>
     Ok(Analysis { lives, parts })
 }
 
-fn fit(alloc: Global, bundle: &Bundle, analysis: Analysis) -> Result<Allocation, AllocFault>
+fn fit(alloc: Global, bundle: &Bundle, analysis: Analysis) -> Result<FlatAllocation, AllocFault>
     requires formed { IsFormedBundle bundle.now }
     requires lives { AreLives bundle.now.programs analysis.lives }
     requires pressures { ArePressures bundle.now.programs analysis.parts }
@@ -91,7 +109,7 @@ fn fitting(
     bundle: &Bundle,
     analysis: Analysis,
     need: u32,
-) -> Result<Allocation, AllocFault>
+) -> Result<FlatAllocation, AllocFault>
     requires formed { IsFormedBundle bundle.now }
     requires lives { AreLives bundle.now.programs analysis.lives }
     requires pressures { ArePressures bundle.now.programs analysis.parts }
@@ -186,7 +204,7 @@ fn allocated(
     analysis: Analysis,
     need: u32,
     found: Chosen,
-) -> Result<Allocation, NoMemory>
+) -> Result<FlatAllocation, NoMemory>
     requires formed { IsFormedBundle bundle.now }
     requires lives { AreLives bundle.now.programs analysis.lives }
     requires pressures { ArePressures bundle.now.programs analysis.parts }
@@ -203,7 +221,7 @@ fn allocated(
     let Budgeted { budget, plans } = made;
     let glue = budget.cost;
     let image = emit_counted(alloc, bundle, plans.as_slice(), &budget, glue)?;
-    Ok(Allocation {
+    Ok(FlatAllocation {
         image,
         budget,
         plans,
@@ -216,7 +234,7 @@ fn allocated(
 #[derive(Drop)]
 struct Budgeted {
     budget: Budget,
-    plans: List<Plan>,
+    plans: List<FlatPlan>,
 }
 
 /// The plans for the preferred budget. What was known of the contexts beside is given back, so that the

@@ -8,6 +8,7 @@ mod cell;
 mod dearer;
 mod fit;
 mod fits;
+mod flat;
 mod kept;
 mod moving;
 mod planning;
@@ -18,4 +19,5 @@ mod sizing;
 mod table;
 
 pub use allocation::{AllocFault, Allocation};
-pub use fit::allocate;
+pub use fit::{allocate, allocate_flat};
+pub use flat::FlatAllocation;

@@ -20,7 +20,7 @@ use crate::priced::PricedWalk;
 use budget::SIZES;
 use liveness::Live;
 use micro_isa::{List, MOST_FILE, NoMemory, Program};
-use plan::Plan;
+use plan::FlatPlan;
 use pressure::Pressure;
 use range_colour::fit_plan;
 use std::alloc::Global;
@@ -35,7 +35,7 @@ pub(crate) fn plans_of(
     shared: u32,
     keeps: &[Kept],
     walks: &mut [Option<PricedWalk>],
-) -> Result<List<Plan>, NoMemory>
+) -> Result<List<FlatPlan>, NoMemory>
     requires closed { AreClosed programs.now }
     requires lives { AreLives programs.now lives.now }
     requires parts { ArePressures programs.now parts.now }
@@ -65,7 +65,7 @@ fn planned(
     keeps: &[Kept],
     walks: &mut [Option<PricedWalk>],
     c: usize,
-) -> Result<Plan, NoMemory>
+) -> Result<FlatPlan, NoMemory>
     requires closed { AreClosed programs.now }
     requires lives { AreLives programs.now lives.now }
     requires parts { ArePressures programs.now parts.now }
@@ -100,7 +100,7 @@ fn plan_of(
     shared: u32,
     kept: &Kept,
     walk: Option<PricedWalk>,
-) -> Result<Plan, NoMemory>
+) -> Result<FlatPlan, NoMemory>
     requires closed { IsClosedCode program.now.code }
     requires live { IsLiveOf program.now.code live.now }
     requires part { IsPressureOf program.now.code part }
@@ -118,7 +118,7 @@ fn plan_of(
     match kept {
         Kept::Free(fit) => {
             let code = program.code.as_slice();
-            fit_plan(alloc, code, live, fit, p, part.all + j, &mut [])
+            fit_plan(code, live, fit, p, part.all + j, FlatPlan::new(alloc))
         }
         Kept::Fitted(fits) => cell(alloc, program, live, fits, walk, part.all, j, p),
     }
@@ -134,7 +134,7 @@ fn more(least: u32, size: u32) -> u32
     (SIZES - 1).min(size - least)
 }
 
-fn push_plan(plans: &mut List<Plan>, plan: Plan) -> Result<(), NoMemory>
+fn push_plan(plans: &mut List<FlatPlan>, plan: FlatPlan) -> Result<(), NoMemory>
     ensures { OnOk result (plans.new ≡ plans.old ++ plan ∷ []) }
 {
     if plans.push(plan).is_err() {

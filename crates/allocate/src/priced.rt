@@ -17,7 +17,7 @@ use budget::SIZE_COUNT;
 use emit::{glues, jump_glues};
 use liveness::Live;
 use micro_isa::{MOST_FILE, NoMemory, Program};
-use plan::{Plan, PlanRow};
+use plan::FlatPlan;
 use point_walk::{Route, walk_route};
 use pressure::Pressure;
 use std::alloc::Global;
@@ -29,20 +29,19 @@ pub(crate) struct PricedWalk {
     pub costs: [u32; SIZE_COUNT],
 }
 
-/// The rows of the walk, if there is one, whose memory another plan of its program may use.
-pub(crate) fn spare_rows(alloc: Global, walk: Option<PricedWalk>) -> Vec<PlanRow> {
+/// The plan of the walk, if there is one, whose memory another plan of its program may use.
+pub(crate) fn room_of(alloc: Global, walk: Option<PricedWalk>) -> FlatPlan {
     match walk {
-        Some(walk) => rows_in(walk),
-        None => Vec::new(alloc),
+        Some(walk) => plan_in(walk),
+        None => FlatPlan::new(alloc),
     }
 }
 
-/// The rows of this walk.
-pub(crate) fn rows_in(walk: PricedWalk) -> Vec<PlanRow> {
+/// The plan of this walk.
+pub(crate) fn plan_in(walk: PricedWalk) -> FlatPlan {
     let PricedWalk { route, .. } = walk;
     let Route { plan, .. } = route;
-    let Plan { rows, .. } = plan;
-    rows.into_vec()
+    plan
 }
 
 /// Whether the walk with `p` private places has these rows.
@@ -50,9 +49,9 @@ pub(crate) fn serves(walk: &PricedWalk, p: u32) -> bool
     ensures { result ≡ true → (code : Sequence CodeLine) (from : ℕ) → IsPriced code from walk.now → HasRows code p walk.now.route.plan }
 {
     if walk.route.lasting {
-        walk.route.plan.p <= p
+        walk.route.plan.p() <= p
     } else {
-        walk.route.plan.p == p
+        walk.route.plan.p() == p
     }
 }
 
@@ -82,8 +81,8 @@ pub(crate) fn costs_with(
     if let Some(costs) = kept_costs(walk, p) {
         return Ok(costs);
     }
-    let mut spare = spare_rows(alloc, walk.take());
-    let made = priced_walk(alloc, program, live, part, p, most, &mut spare)?;
+    let room = room_of(alloc, walk.take());
+    let made = priced_walk(alloc, program, live, part, p, most, room)?;
     let costs = made.costs;
     *walk = Some(made);
     Ok(costs)
@@ -109,7 +108,8 @@ pub(crate) fn is_walk_free(
     ensures free { IfOk result (λ free. free ≡ true → IsFreeFrom program.now.code part.private part.all) }
     ensures walk { IfSome walk.new (IsPriced program.now.code part.all) }
 {
-    let made = priced_walk(alloc, program, live, part, part.private, most, &mut [])?;
+    let room = FlatPlan::new(alloc);
+    let made = priced_walk(alloc, program, live, part, part.private, most, room)?;
     let free = costs_nothing(&made);
     *walk = Some(made);
     Ok(free)
@@ -165,7 +165,7 @@ fn priced_walk(
     part: Pressure,
     p: u32,
     most: u32,
-    spare: &mut [PlanRow],
+    room: FlatPlan,
 ) -> Result<PricedWalk, NoMemory>
     requires closed { IsClosedCode program.now.code }
     requires live { IsLiveOf program.now.code live.now }
@@ -178,7 +178,7 @@ fn priced_walk(
     ensures own { IfOk result (λ walk. walk.route.plan.p ≡ p) }
     ensures rows { IfOk result (λ walk. HasRows program.now.code p walk.route.plan) }
 {
-    let route = walk_route(alloc, program, live, p, most, spare)?;
+    let route = walk_route(program, live, p, most, room)?;
     let costs = route_glues(alloc, program, &route, part.all)?;
     Ok(PricedWalk { route, costs })
 }

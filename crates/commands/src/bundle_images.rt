@@ -10,7 +10,7 @@ use crate::no_fit::{Allocated, allocation_of};
 use crate::prepared::{Opening, Prepared};
 use crate::status::Status;
 use crate::task::Reply;
-use allocate::Allocation;
+use allocate::FlatAllocation;
 use image_load::write_image;
 use micro_isa::{Bundle, Image, MOST_STEPS, NoMemory};
 use std::alloc::Global;
@@ -31,13 +31,17 @@ pub(crate) fn run_bundle(alloc: Global, bundle: &Bundle, steps: u32) -> Result<P
 }
 
 /// The opening of the run of an allocation's image, which is taken out of it.
-fn open_allocated(alloc: Global, allocation: Allocation, steps: u32) -> Result<Opening, NoMemory>
+fn open_allocated(
+    alloc: Global,
+    allocation: FlatAllocation,
+    steps: u32,
+) -> Result<Opening, NoMemory>
     requires formed { IsFormedImage allocation.image }
     requires bound { steps ≤ MOST_STEPS }
     ensures { IfOk result (IsOpening steps allocation.image (Some allocation.need)) }
 {
-    let need = allocation.need;
-    open_run(alloc, allocation.image, Some(need), steps)
+    let need = allocation.need();
+    open_run(alloc, allocation.into_image(), Some(need), steps)
 }
 
 /// The bytes of a bundle's image, where the bundle fits its file.
@@ -47,7 +51,7 @@ pub(crate) fn build_bundle(alloc: Global, bundle: &Bundle) -> Result<Reply, NoMe
     ensures { IfOk result (λ r. BuildTells r.status bundle.now r.text.items) }
 {
     match allocation_of(alloc, bundle)? {
-        Allocated::Fits(allocation) => written(alloc, &allocation.image),
+        Allocated::Fits(allocation) => written(alloc, allocation.image()),
         Allocated::Short(reply) => Ok(reply),
     }
 }

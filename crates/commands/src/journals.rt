@@ -32,13 +32,10 @@ pub fn perform_on_journal(
 {
     let steps = steps_of(task);
     match allocation_of(alloc, bundle)? {
-        Allocated::Fits(allocation) => replay_image(
-            alloc,
-            &allocation.image,
-            allocation.need,
-            journal,
-            steps,
-        ),
+        Allocated::Fits(allocation) => {
+            let need = allocation.need();
+            replay_image(alloc, allocation.image(), need, journal, steps)
+        }
         Allocated::Short(reply) => Ok(reply),
     }
 }

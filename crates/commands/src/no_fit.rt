@@ -8,7 +8,7 @@ ghost use Rattle.commands.specs.declared.status.Status.TheVariants as status;
 
 use crate::status::Status;
 use crate::task::Reply;
-use allocate::{AllocFault, Allocation, allocate};
+use allocate::{AllocFault, FlatAllocation, allocate_flat};
 use micro_isa::{Bundle, NoMemory};
 use micro_kit::{put_named, put_number_line};
 use std::alloc::Global;
@@ -16,7 +16,7 @@ use std::alloc::Global;
 /// What the allocation of a bundle comes to.
 #[derive(Drop)]
 pub(crate) enum Allocated {
-    Fits(Allocation),
+    Fits(FlatAllocation),
     /// The bundle does not fit its file, and this is to be written.
     Short(Reply),
 }
@@ -27,7 +27,7 @@ pub(crate) fn allocation_of(alloc: Global, bundle: &Bundle) -> Result<Allocated,
     requires { IsFormedBundle bundle.now }
     ensures { IfOk result (IsAllocated bundle.now) }
 {
-    match allocate(alloc, bundle) {
+    match allocate_flat(alloc, bundle) {
         Ok(allocation) => Ok(Allocated::Fits(allocation)),
         Err(AllocFault::NoFit { need, file }) => Ok(Allocated::Short(no_fit(alloc, need, file)?)),
         Err(AllocFault::NoMemory) => Err(NoMemory),

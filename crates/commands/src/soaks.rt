@@ -36,7 +36,8 @@ fn soak(alloc: Global, number: u32) -> Result<Reply, NoMemory>
     let bundle = generated(alloc, number)?;
     match allocation_of(alloc, &bundle)? {
         Allocated::Fits(allocation) => {
-            soak_image(alloc, number, allocation.need, allocation.image)
+            let need = allocation.need();
+            soak_image(alloc, number, need, allocation.into_image())
         }
         Allocated::Short(reply) => Ok(reply),
     }

@@ -1,4 +1,5 @@
 pub mod Naming
+pub mod Rowing
 pub mod Filling
 pub mod Edging
 pub mod Sizing

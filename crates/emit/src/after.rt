@@ -8,23 +8,23 @@ ghost use Rattle.emit.specs.Tables.{AreAfter, AreSmall, HasPlaces, place_with};
 
 use crate::rows::{places_at, write_at, written_at};
 use micro_isa::{Line, MOST_REGISTERS, VReg};
-use plan::{Place, Plan};
+use plan::{FlatPlan, Place};
 
 /// A place for each register, by the register's number.
 pub(crate) type Places = [u8; MOST_REGISTERS];
 
 /// The places of row `i`.
-pub(crate) fn places_of_row(plan: &Plan, i: usize) -> Places
+pub(crate) fn places_of_row(plan: &FlatPlan, i: usize) -> Places
     requires { AreSmall (row_at plan.now i).places }
     ensures { HasPlaces (row_at plan.now i).places result }
 {
     let mut table = [0; MOST_REGISTERS];
-    fill(&mut table, places_at(plan.rows.as_slice(), i));
+    fill(&mut table, places_at(plan, i));
     table
 }
 
 /// Where each register is after instruction `i`, where it is live then.
-pub(crate) fn places_after(code: &[Line], plan: &Plan, i: usize) -> Places
+pub(crate) fn places_after(code: &[Line], plan: &FlatPlan, i: usize) -> Places
     requires closed { IsClosedCode code.now }
     requires valid { IsValidPlan code.now plan.now }
     requires within { i < length code.now }
@@ -36,18 +36,14 @@ pub(crate) fn places_after(code: &[Line], plan: &Plan, i: usize) -> Places
 }
 
 /// From the places of row `i` to those after its instruction: writes the place of what it writes.
-pub(crate) fn write_place(table: &mut Places, code: &[Line], plan: &Plan, i: usize)
+pub(crate) fn write_place(table: &mut Places, code: &[Line], plan: &FlatPlan, i: usize)
     requires closed { IsClosedCode code.now }
     requires valid { IsValidPlan code.now plan.now }
     requires within { i < length code.now }
     requires row { HasPlaces (row_at plan.now i).places table.old }
     ensures { AreAfter code.now plan.now i table.new }
 {
-    put(
-        table,
-        written_at(code, i),
-        write_at(plan.rows.as_slice(), i),
-    );
+    put(table, written_at(code, i), write_at(plan, i));
 }
 
 #[tactic(auto, using(crate::proofs::Filling::fill_next))]

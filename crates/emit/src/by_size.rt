@@ -17,7 +17,7 @@ use crate::rows::next_at;
 use crate::sizes::with_jump;
 use budget::SIZE_COUNT;
 use micro_isa::{Line, NoMemory, Program};
-use plan::Plan;
+use plan::FlatPlan;
 use std::alloc::Global;
 
 /// How many glue words a valid plan has with `from` places in all, with one more, and so on: its
@@ -25,7 +25,7 @@ use std::alloc::Global;
 pub fn glues(
     alloc: Global,
     program: &Program,
-    plan: &Plan,
+    plan: &FlatPlan,
     from: u32,
 ) -> Result<[u32; SIZE_COUNT], NoMemory>
     requires closed { IsClosedCode program.now.code }
@@ -40,7 +40,7 @@ pub fn glues(
 fn glues_of(
     alloc: Global,
     code: &[Line],
-    plan: &Plan,
+    plan: &FlatPlan,
     from: u32,
 ) -> Result<[u32; SIZE_COUNT], NoMemory>
     requires closed { IsClosedCode code.now }
@@ -63,7 +63,7 @@ fn glues_of(
 pub(crate) fn edges_at(
     alloc: Global,
     code: &[Line],
-    plan: &Plan,
+    plan: &FlatPlan,
     i: usize,
     table: &mut Places,
 ) -> Result<(EdgeCosts, EdgeCosts), NoMemory>

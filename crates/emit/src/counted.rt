@@ -15,7 +15,7 @@ use edge_moves::Step;
 use micro_isa::{
     AluOp, Extra, Instr, Line, Operands, PReg, VReg, Word, instr_of, operands_of, operation_of,
 };
-use plan::{Place, Plan};
+use plan::{FlatPlan, Place};
 
 /// The register of a place.
 fn register_at(layout: Layout, place: u8) -> PReg
@@ -148,13 +148,18 @@ fn word_of(line: Line, places: &[Place], write: u8, goto: u32, layout: Layout) -
 }
 
 /// The counted word of instruction `i`.
-pub(crate) fn counted_word(code: &[Line], plan: &Plan, i: usize, goto: u32, layout: Layout) -> Word
+pub(crate) fn counted_word(
+    code: &[Line],
+    plan: &FlatPlan,
+    i: usize,
+    goto: u32,
+    layout: Layout,
+) -> Word
     requires valid { IsValidPlan code.now plan.now }
     requires within { i < length code.now }
     requires goto { (j : ℕ) → (next_at (slice_get code.now i) i).jump ≡ Some j → goto ≡ target_from code.now plan.now i j }
     ensures { result ≡ word_at code.now plan.now (register_at layout) i }
 {
-    let rows = plan.rows.as_slice();
     let line = line_at(code, i);
-    word_of(line, places_at(rows, i), write_at(rows, i), goto, layout)
+    word_of(line, places_at(plan, i), write_at(plan, i), goto, layout)
 }

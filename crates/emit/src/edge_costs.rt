@@ -15,7 +15,7 @@ use crate::edges::{count_moves, free_place, pairs_of};
 use crate::rows::places_at;
 use edge_moves::{Costs, costs};
 use micro_isa::{Line, NoMemory, PReg};
-use plan::{Place, Plan};
+use plan::{FlatPlan, Place};
 use std::alloc::Global;
 
 /// How many steps an edge takes: `with_free` where the least place that no pair names is there,
@@ -130,7 +130,7 @@ fn costs_between(pairs: &[(PReg, PReg)]) -> EdgeCosts
 pub(crate) fn costs_to(
     alloc: Global,
     code: &[Line],
-    plan: &Plan,
+    plan: &FlatPlan,
     i: usize,
     after: &Places,
     next: Option<u32>,
@@ -142,7 +142,7 @@ pub(crate) fn costs_to(
     ensures { IfOk result (AreCostsTo code.now plan.now i next) }
 {
     match next {
-        Some(j) => costs_of_jump(alloc, after, places_at(plan.rows.as_slice(), j as usize)),
+        Some(j) => costs_of_jump(alloc, after, places_at(plan, j as usize)),
         None => Ok(NOTHING),
     }
 }
@@ -152,7 +152,7 @@ pub(crate) fn costs_to(
 pub(crate) fn costs_of_fall(
     alloc: Global,
     code: &[Line],
-    plan: &Plan,
+    plan: &FlatPlan,
     i: usize,
     table: &mut Places,
     fall: Option<u32>,
@@ -166,9 +166,9 @@ pub(crate) fn costs_of_fall(
     ensures next { OnOk result (HasPlaces (row_at plan.now (i + 1)).places table.new) }
 {
     match fall {
-        Some(j) => costs_of_move(alloc, table, places_at(plan.rows.as_slice(), j as usize)),
+        Some(j) => costs_of_move(alloc, table, places_at(plan, j as usize)),
         None => {
-            fill(table, places_at(plan.rows.as_slice(), i + 1));
+            fill(table, places_at(plan, i + 1));
             Ok(NOTHING)
         }
     }

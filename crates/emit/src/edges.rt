@@ -12,7 +12,7 @@ use crate::after::{Places, place_of};
 use crate::rows::places_at;
 use edge_moves::{Step, sequence};
 use micro_isa::{Line, NoMemory, PReg};
-use plan::{Place, Plan};
+use plan::{FlatPlan, Place};
 use smallvec::SmallVec;
 use std::alloc::Global;
 
@@ -99,7 +99,7 @@ fn steps_of(
 pub(crate) fn steps_to(
     alloc: Global,
     code: &[Line],
-    plan: &Plan,
+    plan: &FlatPlan,
     i: usize,
     after: &Places,
     next: Option<u32>,
@@ -111,12 +111,7 @@ pub(crate) fn steps_to(
     ensures { IfOk result (λ done. done.items ≡ steps_to code.now plan.now i next) }
 {
     match next {
-        Some(j) => steps_of(
-            alloc,
-            after,
-            places_at(plan.rows.as_slice(), j as usize),
-            plan.r as u8,
-        ),
+        Some(j) => steps_of(alloc, after, places_at(plan, j as usize), plan.r() as u8),
         None => Ok(SmallVec::new(alloc)),
     }
 }

@@ -18,7 +18,7 @@ use crate::still::still_words;
 use crate::words::context_words;
 use budget::Budget;
 use micro_isa::{Bundle, Code, Image, Line, List, NoMemory, Program, Range, Word};
-use plan::Plan;
+use plan::{FlatPlan, Plan};
 use std::alloc::Global;
 
 /// The image of a bundle for these plans and this budget. It is formed and does what the bundle
@@ -36,7 +36,23 @@ pub fn emit(
     ensures image { IfOk result (λ image. image ≡ emitted bundle.now plans.now budget.now) }
     ensures law { IfOk result (λ image. IsEmitted bundle.now plans.now budget.now image) }
 {
-    image_of(alloc, bundle, plans, budget, false)
+    let flat = flattened(alloc, plans)?;
+    image_of(alloc, bundle, flat.as_slice(), budget, false)
+}
+
+/// The plans, each with its rows in one list.
+fn flattened(alloc: Global, plans: &[Plan]) -> Result<List<FlatPlan>, NoMemory>
+    ensures { IfOk result (λ flat. flat ≡ plans.now) }
+{
+    let mut flat = List::new(alloc);
+    flat.reserve(plans.len())?;
+    for plan in plans {
+        let plan = FlatPlan::of(alloc, plan)?;
+        if flat.push(plan).is_err() {
+            return Err(NoMemory);
+        }
+    }
+    Ok(flat)
 }
 
 /// The same image, for a caller that knows how many glue words the plans have in all: where they have
@@ -45,7 +61,7 @@ pub fn emit(
 pub fn emit_counted(
     alloc: Global,
     bundle: &Bundle,
-    plans: &[Plan],
+    plans: &[FlatPlan],
     budget: &Budget,
     glue: u32,
 ) -> Result<Image, NoMemory>
@@ -63,7 +79,7 @@ pub fn emit_counted(
 fn image_of(
     alloc: Global,
     bundle: &Bundle,
-    plans: &[Plan],
+    plans: &[FlatPlan],
     budget: &Budget,
     still: bool,
 ) -> Result<Image, NoMemory>
@@ -108,7 +124,7 @@ fn code_at(programs: &[Program], c: usize) -> &[Line]
     }
 }
 
-fn plan_at(plans: &[Plan], c: usize) -> &Plan
+fn plan_at(plans: &[FlatPlan], c: usize) -> &FlatPlan
     requires { c < length plans.now }
     ensures { result.now ≡ plan_at plans.now c }
 {
@@ -119,7 +135,7 @@ fn plan_at(plans: &[Plan], c: usize) -> &Plan
 fn contexts_of(
     alloc: Global,
     bundle: &Bundle,
-    plans: &[Plan],
+    plans: &[FlatPlan],
     budget: &Budget,
     shared: u32,
     still: bool,
@@ -162,7 +178,7 @@ fn push_context(contexts: &mut List<Code>, code: Code) -> Result<(), NoMemory>
 fn context_of(
     alloc: Global,
     bundle: &Bundle,
-    plans: &[Plan],
+    plans: &[FlatPlan],
     budget: &Budget,
     c: usize,
     layout: Layout,
@@ -193,7 +209,7 @@ fn context_of(
 fn words_of(
     alloc: Global,
     code: &[Line],
-    plan: &Plan,
+    plan: &FlatPlan,
     layout: Layout,
     still: bool,
 ) -> Result<List<Word>, NoMemory>

@@ -16,14 +16,14 @@ use crate::edge_costs::{EdgeCosts, NOTHING, costs_to};
 use crate::rows::next_at;
 use budget::SIZE_COUNT;
 use micro_isa::{Line, NoMemory, Program};
-use plan::Plan;
+use plan::FlatPlan;
 use std::alloc::Global;
 
 /// The same as `glues`, where no fall takes steps: only the jumps are looked at.
 pub fn jump_glues(
     alloc: Global,
     program: &Program,
-    plan: &Plan,
+    plan: &FlatPlan,
     from: u32,
 ) -> Result<[u32; SIZE_COUNT], NoMemory>
     requires closed { IsClosedCode program.now.code }
@@ -39,7 +39,7 @@ pub fn jump_glues(
 fn jump_glues_of(
     alloc: Global,
     code: &[Line],
-    plan: &Plan,
+    plan: &FlatPlan,
     from: u32,
 ) -> Result<[u32; SIZE_COUNT], NoMemory>
     requires closed { IsClosedCode code.now }
@@ -58,7 +58,12 @@ fn jump_glues_of(
 }
 
 /// What it costs to jump from instruction `i`.
-fn jump_costs(alloc: Global, code: &[Line], plan: &Plan, i: usize) -> Result<EdgeCosts, NoMemory>
+fn jump_costs(
+    alloc: Global,
+    code: &[Line],
+    plan: &FlatPlan,
+    i: usize,
+) -> Result<EdgeCosts, NoMemory>
     requires closed { IsClosedCode code.now }
     requires valid { IsValidPlan code.now plan.now }
     requires within { i < length code.now }

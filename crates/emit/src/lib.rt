@@ -18,4 +18,4 @@ mod words;
 pub use by_size::glues;
 pub use image::{emit, emit_counted};
 pub use jumps::jump_glues;
-pub use sizes::glue;
+pub use sizes::{flat_glue, glue};

@@ -5,7 +5,7 @@ ghost use Rattle.plan.specs.ValidPlans.{place_in};
 ghost use Rattle.emitted.specs.Edges.{row_in, place_or_zero, written_in, next_at};
 
 use micro_isa::{Line, Next, VReg, successors, writes};
-use plan::{Place, PlanRow};
+use plan::{FlatPlan, Place};
 
 /// The place of a register in a row.
 pub(crate) fn place_in(places: &[Place], register: VReg) -> u8
@@ -20,23 +20,19 @@ pub(crate) fn place_in(places: &[Place], register: VReg) -> u8
 }
 
 /// The places of row `i`.
-pub(crate) fn places_at(rows: &[PlanRow], i: usize) -> &[Place]
-    ensures { result.now ≡ (row_in (slice_get rows.now i)).places }
+#[tactic(auto, using(crate::proofs::Rowing::same_places))]
+pub(crate) fn places_at(plan: &FlatPlan, i: usize) -> &[Place]
+    ensures { result.now ≡ (row_in (slice_get plan.now.rows i)).places }
 {
-    match rows.get(i) {
-        Some(row) => row.places.as_slice(),
-        None => &[],
-    }
+    plan.places_at(i)
 }
 
 /// The write's place of row `i`; 0 where nothing is written.
-pub(crate) fn write_at(rows: &[PlanRow], i: usize) -> u8
-    ensures { result ≡ place_or_zero (row_in (slice_get rows.now i)).write }
+#[tactic(auto, using(crate::proofs::Rowing::same_write))]
+pub(crate) fn write_at(plan: &FlatPlan, i: usize) -> u8
+    ensures { result ≡ place_or_zero (row_in (slice_get plan.now.rows i)).write }
 {
-    match rows.get(i) {
-        Some(row) => place_or_zero(row.write),
-        None => 0,
-    }
+    place_or_zero(plan.write_at(i))
 }
 
 fn place_or_zero(write: Option<u8>) -> u8

@@ -13,7 +13,7 @@ use crate::after::Places;
 use crate::by_size::{edges_at, glues};
 use crate::edge_costs::steps_with;
 use micro_isa::{Line, NoMemory, Program};
-use plan::Plan;
+use plan::{FlatPlan, Plan};
 use std::alloc::Global;
 
 /// The glue words of one instruction: the steps where it falls through, and the block of its jump.
@@ -31,7 +31,18 @@ pub fn glue(alloc: Global, program: &Program, plan: &Plan) -> Result<u32, NoMemo
     ensures number { IfOk result (λ glue. glue ≡ glue_of program.now.code plan.now) }
     ensures few { IfOk result (λ glue. glue ≤ most_glue) }
 {
-    let own = glues(alloc, program, plan, plan.r)?;
+    let flat = FlatPlan::of(alloc, plan)?;
+    flat_glue(alloc, program, &flat)
+}
+
+/// The same number, for a plan whose rows stand in one list.
+pub fn flat_glue(alloc: Global, program: &Program, plan: &FlatPlan) -> Result<u32, NoMemory>
+    requires closed { IsClosedCode program.now.code }
+    requires valid { IsValidPlan program.now.code plan.now }
+    ensures number { IfOk result (λ glue. glue ≡ glue_of program.now.code plan.now) }
+    ensures few { IfOk result (λ glue. glue ≤ most_glue) }
+{
+    let own = glues(alloc, program, plan, plan.r())?;
     Ok(own[0])
 }
 
@@ -40,7 +51,7 @@ pub fn glue(alloc: Global, program: &Program, plan: &Plan) -> Result<u32, NoMemo
 pub(crate) fn glue_at(
     alloc: Global,
     code: &[Line],
-    plan: &Plan,
+    plan: &FlatPlan,
     i: usize,
     table: &mut Places,
 ) -> Result<GlueSize, NoMemory>
@@ -55,8 +66,8 @@ pub(crate) fn glue_at(
 {
     let (fall, jump) = edges_at(alloc, code, plan, i, table)?;
     Ok(GlueSize {
-        fall: steps_with(fall, plan.r),
-        block: with_jump(steps_with(jump, plan.r)),
+        fall: steps_with(fall, plan.r()),
+        block: with_jump(steps_with(jump, plan.r())),
     })
 }
 

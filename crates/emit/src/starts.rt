@@ -12,7 +12,7 @@ use crate::after::places_of_row;
 use crate::rows::{next_at, number_at};
 use crate::sizes::glue_at;
 use micro_isa::{Line, List, NoMemory};
-use plan::Plan;
+use plan::FlatPlan;
 use std::alloc::Global;
 
 /// Where the word of each instruction stands, and then where the blocks begin; where each block
@@ -24,7 +24,11 @@ pub(crate) struct Addresses {
 }
 
 #[tactic(auto, using(crate::proofs::Laying::next_piece, crate::proofs::Sizing::few_words))]
-pub(crate) fn addresses_of(alloc: Global, code: &[Line], plan: &Plan) -> Result<Addresses, NoMemory>
+pub(crate) fn addresses_of(
+    alloc: Global,
+    code: &[Line],
+    plan: &FlatPlan,
+) -> Result<Addresses, NoMemory>
     requires closed { IsClosedCode code.now }
     requires valid { IsValidPlan code.now plan.now }
     ensures { IfOk result (λ addresses. AreAddresses code.now plan.now addresses) }
@@ -66,7 +70,7 @@ fn push_number(numbers: &mut List<u32>, number: u32) -> Result<(), NoMemory>
 
 /// Whether steps follow the word of instruction `i`.
 #[tactic(auto, using(crate::proofs::Addressing::start_rises))]
-pub(crate) fn has_falls(code: &[Line], plan: &Plan, addresses: &Addresses, i: usize) -> bool
+pub(crate) fn has_falls(code: &[Line], plan: &FlatPlan, addresses: &Addresses, i: usize) -> bool
     requires closed { IsClosedCode code.now }
     requires valid { IsValidPlan code.now plan.now }
     requires addresses { AreAddresses code.now plan.now addresses.now }
@@ -79,7 +83,7 @@ pub(crate) fn has_falls(code: &[Line], plan: &Plan, addresses: &Addresses, i: us
 
 /// Whether instruction `i` has a block.
 #[tactic(auto, using(crate::proofs::Addressing::block_rises))]
-pub(crate) fn has_block(code: &[Line], plan: &Plan, addresses: &Addresses, i: usize) -> bool
+pub(crate) fn has_block(code: &[Line], plan: &FlatPlan, addresses: &Addresses, i: usize) -> bool
     requires addresses { AreAddresses code.now plan.now addresses.now }
     requires within { i < length code.now }
     ensures { result ≡ has_steps (jump_steps code.now plan.now i) }
@@ -89,7 +93,7 @@ pub(crate) fn has_block(code: &[Line], plan: &Plan, addresses: &Addresses, i: us
 }
 
 /// Where instruction `i` jumps to, if it jumps: its block, or else the word of its target.
-pub(crate) fn goto_at(code: &[Line], plan: &Plan, addresses: &Addresses, i: usize) -> u32
+pub(crate) fn goto_at(code: &[Line], plan: &FlatPlan, addresses: &Addresses, i: usize) -> u32
     requires closed { IsClosedCode code.now }
     requires valid { IsValidPlan code.now plan.now }
     requires addresses { AreAddresses code.now plan.now addresses.now }
@@ -104,7 +108,7 @@ pub(crate) fn goto_at(code: &[Line], plan: &Plan, addresses: &Addresses, i: usiz
 }
 
 /// Where the block of instruction `i` stands.
-fn block_start(code: &[Line], plan: &Plan, addresses: &Addresses, i: usize) -> u32
+fn block_start(code: &[Line], plan: &FlatPlan, addresses: &Addresses, i: usize) -> u32
     requires closed { IsClosedCode code.now }
     requires valid { IsValidPlan code.now plan.now }
     requires addresses { AreAddresses code.now plan.now addresses.now }
@@ -115,7 +119,7 @@ fn block_start(code: &[Line], plan: &Plan, addresses: &Addresses, i: usize) -> u
 }
 
 /// Where the word stands to whose instruction `i` jumps, if it jumps.
-pub(crate) fn target_start(code: &[Line], plan: &Plan, addresses: &Addresses, i: usize) -> u32
+pub(crate) fn target_start(code: &[Line], plan: &FlatPlan, addresses: &Addresses, i: usize) -> u32
     requires closed { IsClosedCode code.now }
     requires addresses { AreAddresses code.now plan.now addresses.now }
     requires within { i < length code.now }
@@ -128,7 +132,7 @@ pub(crate) fn target_start(code: &[Line], plan: &Plan, addresses: &Addresses, i:
 }
 
 /// How many words there are.
-pub(crate) fn word_count(code: &[Line], plan: &Plan, addresses: &Addresses) -> u32
+pub(crate) fn word_count(code: &[Line], plan: &FlatPlan, addresses: &Addresses) -> u32
     requires closed { IsClosedCode code.now }
     requires valid { IsValidPlan code.now plan.now }
     requires addresses { AreAddresses code.now plan.now addresses.now }

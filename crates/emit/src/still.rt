@@ -12,7 +12,7 @@ use crate::layout::Layout;
 use crate::rows::next_at;
 use crate::words::push;
 use micro_isa::{Line, List, NoMemory, Word};
-use plan::Plan;
+use plan::FlatPlan;
 use std::alloc::Global;
 
 /// The words of a context whose plan has no glue: those of its instructions alone, each at its
@@ -21,7 +21,7 @@ use std::alloc::Global;
 pub(crate) fn still_words(
     alloc: Global,
     code: &[Line],
-    plan: &Plan,
+    plan: &FlatPlan,
     layout: Layout,
 ) -> Result<List<Word>, NoMemory>
     requires closed { IsClosedCode code.now }
@@ -38,7 +38,7 @@ pub(crate) fn still_words(
 }
 
 /// The word of instruction `i`, which jumps to its target's number.
-fn still_word(code: &[Line], plan: &Plan, i: usize, layout: Layout) -> Word
+fn still_word(code: &[Line], plan: &FlatPlan, i: usize, layout: Layout) -> Word
     requires closed { IsClosedCode code.now }
     requires valid { IsValidPlan code.now plan.now }
     requires still { glue_of code.now plan.now ≡ 0 }

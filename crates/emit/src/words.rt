@@ -21,7 +21,7 @@ use crate::starts::{
 };
 use edge_moves::Step;
 use micro_isa::{Line, List, NoMemory, Word};
-use plan::Plan;
+use plan::FlatPlan;
 use smallvec::SmallVec;
 use std::alloc::Global;
 
@@ -30,7 +30,7 @@ use std::alloc::Global;
 pub(crate) fn context_words(
     alloc: Global,
     code: &[Line],
-    plan: &Plan,
+    plan: &FlatPlan,
     layout: Layout,
 ) -> Result<List<Word>, NoMemory>
     requires closed { IsClosedCode code.now }
@@ -73,7 +73,7 @@ fn push_steps(words: &mut List<Word>, steps: &[Step], layout: Layout) -> Result<
 fn edge_steps(
     alloc: Global,
     code: &[Line],
-    plan: &Plan,
+    plan: &FlatPlan,
     i: usize,
     next: Option<u32>,
 ) -> Result<SmallVec<Step, 16, Global>, NoMemory>
@@ -93,7 +93,7 @@ fn push_pieces(
     alloc: Global,
     words: &mut List<Word>,
     code: &[Line],
-    plan: &Plan,
+    plan: &FlatPlan,
     addresses: &Addresses,
     layout: Layout,
 ) -> Result<(), NoMemory>
@@ -113,7 +113,7 @@ fn push_piece(
     alloc: Global,
     words: &mut List<Word>,
     code: &[Line],
-    plan: &Plan,
+    plan: &FlatPlan,
     addresses: &Addresses,
     i: usize,
     layout: Layout,
@@ -138,7 +138,7 @@ fn push_falls(
     alloc: Global,
     words: &mut List<Word>,
     code: &[Line],
-    plan: &Plan,
+    plan: &FlatPlan,
     i: usize,
     layout: Layout,
 ) -> Result<(), NoMemory>
@@ -157,7 +157,7 @@ fn push_blocks(
     alloc: Global,
     words: &mut List<Word>,
     code: &[Line],
-    plan: &Plan,
+    plan: &FlatPlan,
     addresses: &Addresses,
     layout: Layout,
 ) -> Result<(), NoMemory>
@@ -178,7 +178,7 @@ fn push_block(
     alloc: Global,
     words: &mut List<Word>,
     code: &[Line],
-    plan: &Plan,
+    plan: &FlatPlan,
     addresses: &Addresses,
     i: usize,
     layout: Layout,

@@ -11,7 +11,7 @@ use emit::{glue, glues};
 use flow_graph::Flow;
 use liveness::Live;
 use micro_isa::{MOST_FILE, Program};
-use plan::{Plan, check_plan};
+use plan::{FlatPlan, Plan, check_plan};
 use std::alloc::Global;
 use std::test::Fail;
 
@@ -76,7 +76,8 @@ fn glue_of(
         return Err("a valid plan".into());
     }
     let own = glue(alloc, program, plan)?;
-    Ok((own, glues(alloc, program, plan, from)?))
+    let flat = FlatPlan::of(alloc, plan)?;
+    Ok((own, glues(alloc, program, &flat, from)?))
 }
 
 fn holds(alloc: Global, case: &Case) -> Result<bool, Fail> {

@@ -1,4 +1,4 @@
-ghost use Rattle.std.specs.Prelude.{ℕ, [], ◌≡◌, ◌+◌, ◌<◌, ◌≤◌, Some, slice_get, take, IfOk, length, if◌then◌else◌, true};
+ghost use Rattle.std.specs.Prelude.{ℕ, ◌≡◌, ◌+◌, ◌<◌, ◌≤◌, Some, slice_get, take, length, if◌then◌else◌, true};
 ghost use Rattle.std.specs.List.{Contains};
 ghost use Rattle.flow_graph.specs.Paths.{IsClosedCode, IsSmall};
 ghost use Rattle.liveness.specs.Lives.{IsLiveOf};
@@ -14,21 +14,22 @@ use crate::keeping::{clear, stands};
 use crate::seats::{Seats, places_within};
 use crate::stage::{fill, grant_below, grant_free};
 use liveness::{Live, register_set, survivors, take_least};
-use micro_isa::{Line, List, MOST_FILE, MOST_REGISTERS, NoMemory, VReg, successors, writes};
-use plan::{Place, PlanRow};
+use micro_isa::{Line, MOST_FILE, MOST_REGISTERS, VReg, successors, writes};
+use plan::Place;
 
-/// A row, and whether each register of it stood: it had its place after the row before.
-#[derive(Drop)]
+/// How many entries a row has, where its write goes, and whether each register of it stood: it had its
+/// place after the row before.
+#[derive(Clone, Copy)]
 pub struct Step {
-    pub row: PlanRow,
+    pub count: usize,
+    pub write: Option<u8>,
     pub stood: bool,
 }
 
 /// The row of instruction `i`, at which the registers of `cross` cross, given the wishes from the row
-/// before and who has them; leaves those for the next. Its places stand in the memory of the empty
-/// list.
+/// before and who has them; leaves those for the next. Its entries are written to the beginning of
+/// `line`.
 pub fn next_row(
-    empty: List<Place>,
     code: &[Line],
     live: &Live,
     i: usize,
@@ -37,8 +38,7 @@ pub fn next_row(
     table: &mut [Option<u8>],
     seats: &mut Seats,
     line: &mut [Place; MOST_REGISTERS],
-) -> Result<Step, NoMemory>
-    requires empty { empty ≡ [] }
+) -> Step
     requires closed { IsClosedCode code.now }
     requires live { IsLiveOf code.now live.now }
     requires here { i < length code.now }
@@ -46,11 +46,12 @@ pub fn next_row(
     requires wishes { IsTable table.old }
     requires seats { AreSeats table.old seats.old }
     requires apart { HasWishes code.now p i table.old }
+    ensures within { result.count ≤ MOST_REGISTERS }
     ensures wishes { IsTable table.new }
-    ensures seats { IfOk result (λ step. AreSeats table.new seats.new) }
-    ensures apart { IfOk result (λ step. HasWishes code.now p (i + 1) table.new) }
-    ensures follows { IfOk result (λ step. Follows code.now p i table.old step.row table.new) }
-    ensures stood { IfOk result (λ step. step.stood ≡ true → HadPlaces table.old step.row.places) }
+    ensures seats { AreSeats table.new seats.new }
+    ensures apart { HasWishes code.now p (i + 1) table.new }
+    ensures follows { Follows code.now p i table.old (record { places = take result.count line.new; write = result.write }) table.new }
+    ensures stood { result.stood ≡ true → HadPlaces table.old (take result.count line.new) }
 {
     let before = live.live_in(i as u32);
     let stay = survivors(code, live, i);
@@ -62,15 +63,13 @@ pub fn next_row(
     };
     let written = writes(&code[i].instr);
     let write = write_place(written, kept, table);
-    let listed = list_places(empty, before, table, line)?;
+    let count = write_entries(before, table, line);
     *seats = leave(table, kept, falls(code, i), written, write);
-    Ok(Step {
-        row: PlanRow {
-            places: listed,
-            write,
-        },
+    Step {
+        count,
+        write,
         stood: settled.stood,
-    })
+    }
 }
 
 /// The set of a row's places, and whether its registers stood.
@@ -172,27 +171,8 @@ fn place_for(register: VReg, stay: Seats, places: &[Option<u8>]) -> u8
     }
 }
 
-/// The entries of the row: the registers of the set with their places, in the memory of the empty
-/// list. They are made in `line` and copied at once, as a push for each takes longer.
-fn list_places(
-    empty: List<Place>,
-    registers: u128,
-    places: &[Option<u8>],
-    line: &mut [Place; MOST_REGISTERS],
-) -> Result<List<Place>, NoMemory>
-    requires empty { empty ≡ [] }
-    requires table { IsTable places.now }
-    ensures { IfOk result (λ list. list ≡ entries places.now (members 128 registers)) }
-{
-    let count = write_entries(registers, places, line);
-    let mut items = empty.into_vec();
-    match items.extend_from_slice(&line[..count]) {
-        Ok(()) => Ok(List::of(items)),
-        Err(_) => Err(NoMemory),
-    }
-}
-
-/// Writes the entries of the row to the beginning of `line`, and gives how many there are.
+/// Writes the entries of the row, the registers of the set with their places, to the beginning of
+/// `line`, and gives how many there are. A push for each to a list takes longer.
 fn write_entries(
     registers: u128,
     places: &[Option<u8>],

@@ -4,23 +4,23 @@ ghost use Rattle.liveness.specs.Lives.{IsLiveOf};
 ghost use Rattle.liveness.specs.Pressures.{HasRoom, IsPrivatePressure, IsTotalPressure};
 ghost use Rattle.plan.specs.declared.row.Plan.{Plan as PlanModel};
 ghost use Rattle.plan.specs.ValidPlans.{IsValidPlan};
-ghost use Rattle.point_walk.specs.Walks.{IsWalk, AreWalked, falls_in};
+ghost use Rattle.point_walk.specs.Walks.{IsWalk, falls_in};
 ghost use Rattle.point_walk.specs.Lasting.{IsLasting};
-ghost use Rattle.point_walk.specs.Settling.{FallsStill, IsSettled};
+ghost use Rattle.point_walk.specs.Settling.{IsSettled};
 
 use crate::keeping::are_low;
-use crate::row::{Step, falls_to, next_row};
+use crate::row::{falls_to, next_row};
 use crate::seats::Seats;
 use liveness::{Live, crossing};
-use micro_isa::{Line, List, MOST_FILE, MOST_REGISTERS, NoMemory, Program, VReg};
-use plan::{Place, Plan, PlanRow, spare_list};
+use micro_isa::{Line, MOST_FILE, MOST_REGISTERS, NoMemory, Program, VReg};
+use plan::{FlatPlan, Place, Plan};
 use std::alloc::Global;
 
 /// The plan of a walk, whether its rows are those of each walk with more private places too, and
 /// whether no register moves where an instruction falls through to the next.
 #[derive(Drop)]
 pub struct Route {
-    pub plan: Plan,
+    pub plan: FlatPlan,
     pub lasting: bool,
     pub settled: bool,
 }
@@ -39,20 +39,18 @@ pub fn walk(alloc: Global, program: &Program, live: &Live, p: u32, r: u32) -> Re
     ensures valid { IfOk result (λ plan. IsValidPlan program.now.code plan) }
     ensures once { (x y : PlanModel) → IsWalk program.now.code p r x → IsWalk program.now.code p r y → x ≡ y }
 {
-    let route = walk_route(alloc, program, live, p, r, &mut [])?;
-    Ok(route.plan)
+    let route = walk_route(program, live, p, r, FlatPlan::new(alloc))?;
+    route.plan.to_plan(alloc)
 }
 
 /// The same plan, whether it serves more private places, and whether no register moves on a fall.
-/// `spare` are rows of another plan of this program, if there is one: the memory of their lists is
-/// used again.
+/// `room` is a plan whose memory is used again.
 pub fn walk_route(
-    alloc: Global,
     program: &Program,
     live: &Live,
     p: u32,
     r: u32,
-    spare: &mut [PlanRow],
+    room: FlatPlan,
 ) -> Result<Route, NoMemory>
     requires closed { IsClosedCode program.now.code }
     requires live { IsLiveOf program.now.code live.now }
@@ -65,47 +63,21 @@ pub fn walk_route(
     ensures lasting { IfOk result (IsLasting program.now.code) }
     ensures settled { IfOk result (IsSettled program.now.code) }
 {
-    match walk_rows(alloc, program.code.as_slice(), live, p, spare) {
-        Ok(
-            Rows {
-                rows,
-                lasting,
-                settled,
-            },
-        ) => Ok(Route {
-            plan: Plan { p, r, rows },
-            lasting,
-            settled,
-        }),
-        Err(NoMemory) => Err(NoMemory),
-    }
+    walk_rows(program.code.as_slice(), live, p, r, room)
 }
 
-/// The rows of a walk, and what a route tells of them.
-#[derive(Drop)]
-struct Rows {
-    rows: List<PlanRow>,
-    lasting: bool,
-    settled: bool,
-}
-
-/// The rows of all instructions, in the memory of the spare ones.
-fn walk_rows(
-    alloc: Global,
-    code: &[Line],
-    live: &Live,
-    p: u32,
-    spare: &mut [PlanRow],
-) -> Result<Rows, NoMemory>
+/// The route of this code, in the memory of `room`.
+fn walk_rows(code: &[Line], live: &Live, p: u32, r: u32, room: FlatPlan) -> Result<Route, NoMemory>
     requires closed { IsClosedCode code.now }
     requires live { IsLiveOf code.now live.now }
-    requires room { (r : ℕ) × (p ≤ r) × HasRoom code.now p r }
-    ensures walked { IfOk result (λ found. AreWalked code.now p found.rows) }
-    ensures lasting { IfOk result (λ found. found.lasting ≡ true → (q : ℕ) → p ≤ q → AreWalked code.now q found.rows) }
-    ensures settled { IfOk result (λ found. found.settled ≡ true → FallsStill code.now (record { p = p; r = p; rows = found.rows })) }
+    requires order { p ≤ r }
+    requires room { HasRoom code.now p r }
+    ensures walked { IfOk result (λ route. IsWalk code.now p r route.plan) }
+    ensures lasting { IfOk result (IsLasting code.now) }
+    ensures settled { IfOk result (IsSettled code.now) }
 {
-    let mut rows = List::new(alloc);
-    rows.reserve(code.len())?;
+    let mut plan = room.emptied(p, r);
+    plan.reserve(code.len())?;
     let mut wishes: [Option<u8>; MOST_REGISTERS] = [None; MOST_REGISTERS];
     let mut seats = Seats {
         held: 0,
@@ -121,26 +93,13 @@ fn walk_rows(
     'rows: for i in 0..code.len() {
         let cross = crossing(code, live, i);
         let lasts = are_low(cross, p, &wishes);
-        let empty = spare_list(alloc, spare, i);
-        let Step { row, stood } = next_row(
-            empty,
-            code,
-            live,
-            i,
-            cross,
-            p,
-            &mut wishes,
-            &mut seats,
-            &mut line,
-        )?;
-        settled = stays_settled(code, i, settled, stood);
-        let Ok(()) = rows.push(row) else {
-            return Err(NoMemory);
-        };
+        let step = next_row(code, live, i, cross, p, &mut wishes, &mut seats, &mut line);
+        plan.push_row(&line[..step.count], step.write)?;
+        settled = stays_settled(code, i, settled, step.stood);
         lasting = lasting && lasts;
     }
-    Ok(Rows {
-        rows,
+    Ok(Route {
+        plan,
         lasting,
         settled,
     })

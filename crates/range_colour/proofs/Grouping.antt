@@ -12,11 +12,11 @@ use Rattle.micro_isa.specs.declared.program.Line.{Line}
 use Rattle.flow_graph.specs.Paths.{Edge}
 use Rattle.pressure.specs.declared.region.Regions.{Regions}
 use Rattle.pressure.specs.Regions.{AreRegionsOf, Connected, Joined, numbers_in}
-use Rattle.plan.specs.declared.row.PlanRow.{PlanRow}
+use Rattle.plan.specs.declared.row.Plan.{Plan}
 use Rattle.plan.specs.ValidPlans.{IsValidPlan}
 use Rattle.range_colour.specs.declared.fit.Fit.{Fit}
 use Rattle.range_colour.specs.Groups.{Among, InUse}
-use Rattle.range_colour.specs.PlacedPlans.{AreRegionFits, AreRowsPlaced, Fits, IsPlacedBy, IsRegionFit, MovesNothing}
+use Rattle.range_colour.specs.PlacedPlans.{AreRegionFits, Fits, IsPlacedBy, IsRegionFit, MovesNothing}
 use Rattle.range_colour.specs.Fits.{IsFit, least_all, least_private, places_in}
 use Rattle.range_colour.specs.Regional.{AreFirstFits, AreFits, AreFitsOver, DoFit, IsGroupedTo, OfRegion, places_at, places_for, places_told}
 use Rattle.range_colour.proofs.Planning.{fits_by_test, out_by_test, small_place}
@@ -171,21 +171,16 @@ module _ (code : List Line) (regions : Regions) (are : AreRegionsOf code regions
       pub region_small : (i k : ℕ) → i < length code → InUse code i k k → slice_index (places_for regions fits i) k < 256
       region_small i k less used = small_place code (Connected code i) (region_places i) p r i k order few (all_fit i less) less ([], refl) used
 
-      placed : (rows : List PlanRow) → AreRowsPlaced code region_places rows → IsPlacedBy code p r region_places (record { p = p; r = r; rows = rows })
-      placed rows are_placed = record { private = refl; all = refl; rows = are_placed }
+      pub region_some : (plan : Plan) → IsPlacedBy code p r region_places plan → IsRegionFit code p r (Some plan)
+      region_some plan placed = (region_places, first_fits, all_fit, placed)
 
-      pub region_some : (rows : List PlanRow) → AreRowsPlaced code region_places rows → IsRegionFit code p r (Some (record { p = p; r = r; rows = rows }))
-      region_some rows are_placed = (region_places, first_fits, all_fit, placed rows are_placed)
+      pub region_valid : (plan : Plan) → IsPlacedBy code p r region_places plan → IsValidPlan code plan
+      region_valid plan placed = plan_valid code p r region_places plan (Connected code) order few (λ i less. ([], refl)) first_fits all_fit placed
 
-      pub region_valid : (rows : List PlanRow) → AreRowsPlaced code region_places rows → IsValidPlan code (record { p = p; r = r; rows = rows })
-      region_valid rows are_placed =
-          plan_valid code p r region_places (record { p = p; r = r; rows = rows }) (Connected code) order few (λ i less. ([], refl)) first_fits all_fit (placed rows are_placed)
-
-      pub region_still : (rows : List PlanRow) → ((i j : ℕ) → Edge code i j → j < length code) → AreRowsPlaced code region_places rows
-          → (i j : ℕ) → Joined code i j → MovesNothing code (record { p = p; r = r; rows = rows }) i j
-      region_still rows closed are_placed i j joined =
+      pub region_still : (plan : Plan) → ((i j : ℕ) → Edge code i j → j < length code) → IsPlacedBy code p r region_places plan
+          → (i j : ℕ) → Joined code i j → MovesNothing code plan i j
+      region_still plan closed placed i j joined =
           let edge : Edge code i j = (joined.0, joined.1, joined.3) in
           let here = slice_get_within code i joined.0 joined.1 in
           let same = (are.same i j here (closed i j edge)).1 (j ∷ [], (inl joined, refl)) in
-          nothing_moves code p r region_places (record { p = p; r = r; rows = rows }) i j (placed rows are_placed) edge
-          (λ k live. ap (λ (g : ℕ). slice_index (places_at fits g) k) same)
+          nothing_moves code p r region_places plan i j placed edge (λ k live. ap (λ (g : ℕ). slice_index (places_at fits g) k) same)

@@ -4,17 +4,17 @@ ghost use Rattle.flow_graph.specs.Paths.{IsClosedCode};
 ghost use Rattle.liveness.specs.Lives.{IsLiveOf};
 ghost use Rattle.plan.specs.ValidPlans.{IsValidPlan};
 ghost use Rattle.pressure.specs.Regions.{AreRegionsOf, Joined, count_in, numbers_in};
-ghost use Rattle.range_colour.specs.PlacedPlans.{AreRowsPlaced, IsRegionFit, MovesNothing};
+ghost use Rattle.range_colour.specs.PlacedPlans.{IsPlacedBy, IsRegionFit, MovesNothing};
 ghost use Rattle.range_colour.specs.Groups.{InUse};
 ghost use Rattle.range_colour.specs.Regional.{AreFirstFits, AreFits, AreFitsOver, DoFit, IsGroupedTo, places_at, places_for};
 
 use crate::fit::Fit;
-use crate::rows::row_at;
+use crate::rows::push_row_at;
 use liveness::Live;
 use micro_isa::{
     Line, List, MOST_FILE, MOST_INSTRUCTIONS, MOST_REGISTERS, NoMemory, Program, VReg,
 };
-use plan::{Place, Plan, PlanRow};
+use plan::{FlatPlan, Place, Plan};
 use pressure::Regions;
 use std::alloc::Global;
 
@@ -41,7 +41,21 @@ pub fn by_region(
 {
     let code = program.code.as_slice();
     let fits = region_fits(alloc, code, live, regions)?;
-    region_plan(alloc, code, live, regions, fits.as_slice(), p, r)
+    let found = region_plan(alloc, code, live, regions, fits.as_slice(), p, r)?;
+    listed(alloc, found)
+}
+
+/// The plan as a list of lists, if there is one.
+fn listed(alloc: Global, found: Option<FlatPlan>) -> Result<Option<Plan>, NoMemory>
+    ensures { IfOk result (λ plan. plan ≡ found) }
+{
+    match found {
+        Some(flat) => {
+            let plan = flat.to_plan(alloc)?;
+            Ok(Some(plan))
+        }
+        None => Ok(None),
+    }
 }
 
 /// The plan by these fits of the regions. Its rows serve all sizes in which they fit.
@@ -53,7 +67,7 @@ pub fn region_plan(
     fits: &[Fit],
     p: u32,
     r: u32,
-) -> Result<Option<Plan>, NoMemory>
+) -> Result<Option<FlatPlan>, NoMemory>
     requires closed { IsClosedCode code.now }
     requires live { IsLiveOf code.now live.now }
     requires regions { AreRegionsOf code.now regions.now }
@@ -69,8 +83,9 @@ pub fn region_plan(
     if !all_fit(fits, p, r) {
         return Ok(None);
     }
-    let rows = rows(alloc, code, live, regions, fits)?;
-    Ok(Some(Plan { p, r, rows }))
+    let empty = FlatPlan::new(alloc).emptied(p, r);
+    let plan = rows(code, live, regions, fits, empty)?;
+    Ok(Some(plan))
 }
 
 /// The first fit over each region, in the order of their numbers.
@@ -200,36 +215,35 @@ pub fn all_fit(fits: &[Fit], p: u32, r: u32) -> bool
     true
 }
 
-/// The rows of all instructions, whose registers have the places of their region's fit.
+/// The empty plan with the rows of all instructions, whose registers have the places of their
+/// region's fit.
 fn rows(
-    alloc: Global,
     code: &[Line],
     live: &Live,
     regions: &Regions,
     fits: &[Fit],
-) -> Result<List<PlanRow>, NoMemory>
+    empty: FlatPlan,
+) -> Result<FlatPlan, NoMemory>
+    requires empty { empty.rows ≡ [] }
     requires closed { IsClosedCode code.now }
     requires live { IsLiveOf code.now live.now }
     requires regions { AreRegionsOf code.now regions.now }
     requires fits { AreFits code.now regions.now fits.now }
     requires inside { (i k : ℕ) → i < length code.now → InUse code.now i k k → k < length (places_for regions.now fits.now i) }
     requires small { (i k : ℕ) → i < length code.now → InUse code.now i k k → slice_index (places_for regions.now fits.now i) k < 256 }
-    ensures { IfOk result (AreRowsPlaced code.now (λ i. slice_index (places_for regions.now fits.now i))) }
+    ensures { IfOk result (IsPlacedBy code.now empty.p empty.r (λ i. slice_index (places_for regions.now fits.now i))) }
 {
-    let mut rows = List::new(alloc);
-    rows.reserve(code.len())?;
+    let mut plan = empty;
+    plan.reserve(code.len())?;
     let mut line = [Place {
         register: VReg(0),
         place: 0,
     }; MOST_REGISTERS];
     'lines: for i in 0..code.len() {
         let places = places_at(fits, regions.region_of(i as u32));
-        let row = row_at(List::new(alloc), code, live, i, places, &mut line)?;
-        let Ok(()) = rows.push(row) else {
-            return Err(NoMemory);
-        };
+        push_row_at(&mut plan, code, live, i, places, &mut line)?;
     }
-    Ok(rows)
+    Ok(plan)
 }
 
 /// The places of the fit with this number.

@@ -1,65 +1,45 @@
-ghost use Rattle.std.specs.Prelude.{ℕ, [], ◌≡◌, ◌<◌, ◌≤◌, Some, length, slice_index, take, IfOk};
+ghost use Rattle.std.specs.Prelude.{ℕ, ◌≡◌, ◌<◌, ◌≤◌, Some, length, slice_index, take, OnOk};
 ghost use Rattle.std.specs.Option.{option_map};
 ghost use Rattle.std.specs.List.{Contains};
 ghost use Rattle.flow_graph.specs.Paths.{IsClosedCode};
 ghost use Rattle.liveness.specs.Lives.{IsLiveOf};
 ghost use Rattle.liveness.specs.Sets.{members};
 ghost use Rattle.plan.specs.declared.row.Place.{Place as Placed};
+ghost use Rattle.plan.specs.declared.row.PlanRow.{PlanRow};
+ghost use Rattle.plan.specs.Rows.{with_row};
 ghost use Rattle.plan.specs.ValidPlans.{registers_of};
 ghost use Rattle.range_colour.specs.Groups.{InUse};
 ghost use Rattle.range_colour.specs.PlacedPlans.{IsPlacedRow};
 ghost use Rattle.range_colour.specs.Settling.{In};
 
 use liveness::{Live, take_least};
-use micro_isa::{Line, List, MOST_REGISTERS, NoMemory, VReg, writes};
-use plan::{Place, PlanRow};
+use micro_isa::{Line, MOST_REGISTERS, NoMemory, VReg, writes};
+use plan::{FlatPlan, Place};
 
-/// The row of instruction `i`, whose registers have these places. They stand in the memory of the
-/// empty list.
-pub fn row_at(
-    empty: List<Place>,
+/// Appends the row of instruction `i`, whose registers have these places. Its entries are made in
+/// `line` and copied at once, as a push for each takes longer.
+pub fn push_row_at(
+    plan: &mut FlatPlan,
     code: &[Line],
     live: &Live,
     i: usize,
     places: &[u16],
     line: &mut [Place; MOST_REGISTERS],
-) -> Result<PlanRow, NoMemory>
-    requires empty { empty ≡ [] }
+) -> Result<(), NoMemory>
     requires closed { IsClosedCode code.now }
     requires live { IsLiveOf code.now live.now }
     requires here { i < length code.now }
     requires inside { (k : ℕ) → InUse code.now i k k → k < length places.now }
     requires small { (k : ℕ) → InUse code.now i k k → slice_index places.now k < 256 }
-    ensures { IfOk result (IsPlacedRow code.now i (slice_index places.now)) }
+    ensures { OnOk result ((row : PlanRow) × IsPlacedRow code.now i (slice_index places.now) row × (plan.new ≡ with_row plan.old row)) }
 {
     let write = write_place(writes(&code[i].instr), places);
-    let places = listed(empty, live.live_in(i as u32), places, line)?;
-    Ok(PlanRow { places, write })
+    let count = write_entries(live.live_in(i as u32), places, line);
+    plan.push_row(&line[..count], write)
 }
 
-/// The places of these registers, in increasing order of register, in the memory of the empty list.
-/// They are made in `line` and copied at once, as a push for each takes longer.
-fn listed(
-    empty: List<Place>,
-    set: u128,
-    places: &[u16],
-    line: &mut [Place; MOST_REGISTERS],
-) -> Result<List<Place>, NoMemory>
-    requires empty { empty ≡ [] }
-    requires inside { (k : ℕ) → In set k → k < length places.now }
-    requires small { (k : ℕ) → In set k → slice_index places.now k < 256 }
-    ensures registers { IfOk result (λ list. registers_of list ≡ members 128 set) }
-    ensures places { IfOk result (λ list. (q : Placed) → Contains list q → q.place ≡ slice_index places.now q.register.0) }
-{
-    let count = write_entries(set, places, line);
-    let mut items = empty.into_vec();
-    match items.extend_from_slice(&line[..count]) {
-        Ok(()) => Ok(List::of(items)),
-        Err(_) => Err(NoMemory),
-    }
-}
-
-/// Writes the places of these registers to the beginning of `line`, and gives how many there are.
+/// Writes the places of these registers to the beginning of `line`, in increasing order of register,
+/// and gives how many there are.
 fn write_entries(set: u128, places: &[u16], line: &mut [Place; MOST_REGISTERS]) -> usize
     requires inside { (k : ℕ) → In set k → k < length places.now }
     requires small { (k : ℕ) → In set k → slice_index places.now k < 256 }

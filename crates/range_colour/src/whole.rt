@@ -1,19 +1,19 @@
-ghost use Rattle.std.specs.Prelude.{ℕ, ◌≡◌, ◌<◌, ◌≤◌, length, slice_index, IfOk, IfSome, Option, Some, true};
+ghost use Rattle.std.specs.Prelude.{ℕ, [], ◌≡◌, ◌<◌, ◌≤◌, length, slice_index, IfOk, IfSome, Option, Some, true};
 ghost use Rattle.flow_graph.specs.Paths.{Edge, IsClosedCode};
 ghost use Rattle.liveness.specs.Lives.{IsLiveOf};
 ghost use Rattle.plan.specs.ValidPlans.{IsValidPlan};
 ghost use Rattle.range_colour.specs.Groups.{Every, InUse};
-ghost use Rattle.range_colour.specs.PlacedPlans.{AreRowsPlaced, IsWholeFit, MovesNothing};
+ghost use Rattle.range_colour.specs.PlacedPlans.{IsPlacedBy, IsWholeFit, MovesNothing};
 ghost use Rattle.range_colour.specs.Fits.{IsFit};
 ghost use Rattle.range_colour.specs.Regional.{fits_test};
 
 use crate::fit::Fit;
-use crate::rows::row_at;
+use crate::rows::push_row_at;
 use liveness::Live;
 use micro_isa::{
     Line, List, MOST_FILE, MOST_INSTRUCTIONS, MOST_REGISTERS, NoMemory, Program, VReg,
 };
-use plan::{Place, Plan, PlanRow, spare_list};
+use plan::{FlatPlan, Place, Plan};
 use std::alloc::Global;
 
 /// The plan by first fit over all instructions, in which no register moves; none exactly where it
@@ -56,21 +56,21 @@ fn whole_plan(
     if !fit.fits(p, r) {
         return Ok(None);
     }
-    let plan = fit_plan(alloc, code, live, &fit, p, r, &mut [])?;
+    let flat = fit_plan(code, live, &fit, p, r, FlatPlan::new(alloc))?;
+    let plan = flat.to_plan(alloc)?;
     Ok(Some(plan))
 }
 
-/// The plan by this fit over all instructions, which fits in these sizes. `spare` are rows of another
-/// plan of these instructions, if there is one: the memory of their lists is used again.
+/// The plan by this fit over all instructions, which fits in these sizes. `room` is any plan: the
+/// memory of its rows is used again.
 pub fn fit_plan(
-    alloc: Global,
     code: &[Line],
     live: &Live,
     fit: &Fit,
     p: u32,
     r: u32,
-    spare: &mut [PlanRow],
-) -> Result<Plan, NoMemory>
+    room: FlatPlan,
+) -> Result<FlatPlan, NoMemory>
     requires closed { IsClosedCode code.now }
     requires live { IsLiveOf code.now live.now }
     requires fit { IsFit code.now Every fit.now }
@@ -81,8 +81,7 @@ pub fn fit_plan(
     ensures valid { IfOk result (λ plan. IsValidPlan code.now plan) }
     ensures still { IfOk result (λ plan. (i j : ℕ) → Edge code.now i j → MovesNothing code.now plan i j) }
 {
-    let rows = rows(alloc, code, live, fit.places(), spare)?;
-    Ok(Plan { p, r, rows })
+    rows(code, live, fit.places(), room.emptied(p, r))
 }
 
 /// The first fit over all instructions.
@@ -122,33 +121,23 @@ fn all_of(alloc: Global, n: usize) -> Result<List<u32>, NoMemory>
     Ok(list)
 }
 
-/// The rows of all instructions, whose registers have the same places everywhere, in the memory of
-/// the spare ones.
-fn rows(
-    alloc: Global,
-    code: &[Line],
-    live: &Live,
-    places: &[u16],
-    spare: &mut [PlanRow],
-) -> Result<List<PlanRow>, NoMemory>
+/// The empty plan with the rows of all instructions, whose registers have the same places everywhere.
+fn rows(code: &[Line], live: &Live, places: &[u16], empty: FlatPlan) -> Result<FlatPlan, NoMemory>
+    requires empty { empty.rows ≡ [] }
     requires closed { IsClosedCode code.now }
     requires live { IsLiveOf code.now live.now }
     requires inside { (i k : ℕ) → i < length code.now → InUse code.now i k k → k < length places.now }
     requires small { (i k : ℕ) → i < length code.now → InUse code.now i k k → slice_index places.now k < 256 }
-    ensures { IfOk result (AreRowsPlaced code.now (λ i. slice_index places.now)) }
+    ensures { IfOk result (IsPlacedBy code.now empty.p empty.r (λ i. slice_index places.now)) }
 {
-    let mut rows = List::new(alloc);
-    rows.reserve(code.len())?;
+    let mut plan = empty;
+    plan.reserve(code.len())?;
     let mut line = [Place {
         register: VReg(0),
         place: 0,
     }; MOST_REGISTERS];
     'lines: for i in 0..code.len() {
-        let empty = spare_list(alloc, spare, i);
-        let row = row_at(empty, code, live, i, places, &mut line)?;
-        let Ok(()) = rows.push(row) else {
-            return Err(NoMemory);
-        };
+        push_row_at(&mut plan, code, live, i, places, &mut line)?;
     }
-    Ok(rows)
+    Ok(plan)
 }

@@ -1,6 +1,5 @@
-use Rattle.std.proofs.Common.{◌∙◌, ap}
-use Rattle.std.specs.Prelude.{slice_get, slice_index}
-use Rattle.emitted.specs.Edges.{row_in, place_or_zero}
+use Rattle.std.proofs.Common.{◌∙◌}
+use Rattle.std.specs.Prelude.{slice_index}
 use Rattle.emit.specs.Tables.{place_with}
 use Rattle.emit.proofs.Filling.{after_write}
 use Rattle.emit.proofs.after.write_place.Goals as goal
@@ -8,6 +7,6 @@ use Rattle.emit.proofs.after.write_place.Goals as goal
 pub returns : goal.returns
 returns c =
     let register = c.written_at.ensures in
-    let place = c.write_at.ensures ∙ ap (λ rs. place_or_zero (row_in (slice_get rs c.args.i)).write) c.as_slice.ensures in
+    let place = c.write_at.ensures in
     after_write c.args.code.now c.args.plan.now c.args.i c.args.table.now c.requires.valid c.requires.within c.requires.row _
     (λ k. c.put.ensures k ∙ (λ a. place_with (register a) (place a) (λ n. slice_index c.args.table.now n) k))

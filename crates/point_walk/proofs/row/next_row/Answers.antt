@@ -1,4 +1,4 @@
-use Rattle.std.proofs.Common.{slice_get, refl, subst, sym, arith}
+use Rattle.std.proofs.Common.{slice_get, take, refl, subst, sym, arith}
 use Rattle.liveness.specs.Liveness.{LiveIn}
 use Rattle.liveness.specs.Sets.{IsSetOf, members}
 use Rattle.liveness.specs.Surviving.{Stays, Crosses}
@@ -38,7 +38,7 @@ returns-clause-follows c =
       is_cross = listed (Crosses c.args.code.now c.args.i) c.args.cross (omega arith) c.requires.crossing;
       is_stay = listed (Stays c.args.code.now c.args.i) c.survivors-stay.result (omega arith) c.survivors-stay.ensures;
       given = c.settle-settled.ensures.given;
-      places = c.in_ok-listed.ensures;
+      places = c.write_entries-count.ensures.entries;
       write = subst (λ w. IsWritePlace (members 128 c.survivors-stay.result) c.settle-settled.new.table w c.write_place-write.result) written c.write_place-write.ensures.place;
       leaves = left_as c.falls.result _ c.writes-written.result _ c.write_place-write.result c.settle-settled.new.table c.leave.new.table c.falls.ensures written c.leave.ensures.left;
     }
@@ -52,7 +52,7 @@ returns-clause-wishes c =
 pub returns-clause-apart : goal.returns-clause-apart
 returns-clause-apart c =
     let wish = c.requires.apart in
-    let row : PlanRow = record { places = c.in_ok-listed.listed; write = c.write_place-write.result } in record {
+    let row : PlanRow = record { places = take c.write_entries-count.result c.write_entries-count.new.line; write = c.write_place-write.result } in record {
       r = wish.r;
       order = wish.order;
       room = wish.room;
@@ -90,4 +90,4 @@ leave-requires-clause-alone c =
 
 pub returns-clause-stood : goal.returns-clause-stood
 returns-clause-stood c = λ stood.
-    had_places c.args.table.now c.settle-settled.new.table (members 128 c.live_in-before.result) c.in_ok-listed.listed c.in_ok-listed.ensures (c.settle-settled.ensures.stood stood)
+    had_places c.args.table.now c.settle-settled.new.table (members 128 c.live_in-before.result) (take c.write_entries-count.result c.write_entries-count.new.line) c.write_entries-count.ensures.entries (c.settle-settled.ensures.stood stood)

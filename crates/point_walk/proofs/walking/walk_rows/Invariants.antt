@@ -10,7 +10,9 @@ invariant-rows l = record {
   table : IsTable l.wishes;
   seats : AreSeats l.wishes l.seats;
   apart : HasWishes l.code l.p l.i l.wishes;
-  walked : Walked l.code l.p l.i l.rows l.wishes;
-  lasting : l.lasting ≡ true → (q : ℕ) → l.p ≤ q → Walked l.code q l.i l.rows l.wishes;
-  settled : l.settled ≡ true → FallsStill l.code (record { p = l.p; r = l.p; rows = l.rows });
+  private : l.plan.p ≡ l.p;
+  all : l.plan.r ≡ l.r;
+  walked : Walked l.code l.p l.i l.plan.rows l.wishes;
+  lasting : l.lasting ≡ true → (q : ℕ) → l.p ≤ q → Walked l.code q l.i l.plan.rows l.wishes;
+  settled : l.settled ≡ true → FallsStill l.code l.plan;
 }

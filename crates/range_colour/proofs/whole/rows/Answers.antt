@@ -1,24 +1,18 @@
-use Rattle.std.proofs.Common.{ℕ, ◌∷◌, [], length-append, sym, subst, arith}
-use Rattle.std.specs.Prelude.{slice_index}
-use Rattle.plan.specs.declared.row.PlanRow.{PlanRow}
-use Rattle.range_colour.specs.PlacedPlans.{IsPlacedRow}
-use Rattle.range_colour.proofs.Planning.{pushed_each}
+use Rattle.std.proofs.Common.{arith}
+use Rattle.range_colour.proofs.Planning.{placed_all, placed_more, placed_none}
 use Rattle.range_colour.proofs.whole.rows.Goals as goal
 
-pub row_at-requires-clause-inside : goal.row_at-requires-clause-inside
-row_at-requires-clause-inside c k used = c.requires.inside c.lines.i k c.lines-test.true used
+pub lines-init : goal.lines-init
+lines-init c = rw c.reserve.ensures (placed_none _ _ _ c.requires.empty)
 
-pub row_at-requires-clause-small : goal.row_at-requires-clause-small
-row_at-requires-clause-small c k used = c.requires.small c.lines.i k c.lines-test.true used
+pub push_row_at-requires-clause-inside : goal.push_row_at-requires-clause-inside
+push_row_at-requires-clause-inside c k used = c.requires.inside c.lines.i k c.lines-test.true used
+
+pub push_row_at-requires-clause-small : goal.push_row_at-requires-clause-small
+push_row_at-requires-clause-small c k used = c.requires.small c.lines.i k c.lines-test.true used
 
 pub lines-preserved : goal.lines-preserved
-lines-preserved c =
-    let Placed : ℕ → PlanRow → Type 0 = λ i row. IsPlacedRow c.args.code.now i (slice_index c.args.places.now) row in
-    let whole = c.lines.invariant.whole in
-    let last = subst (λ n. Placed n c.in_ok-row.row) (sym whole) c.in_ok-row.ensures in
-    let each = pushed_each Placed c.lines.rows c.in_ok-row.row c.lines.invariant.each last in
-    let long = length-append c.lines.rows (c.in_ok-row.row ∷ []) in
-    record {
-      whole = rw c.in-Ok.ensures.ok (omega arith);
-      each = rw c.in-Ok.ensures.ok each;
-    }
+lines-preserved c = placed_more _ _ _ _ _ _ _ c.lines.invariant c.in_ok-push_row_at.ensures
+
+pub returns : goal.returns
+returns c = placed_all _ _ _ _ _ _ (omega arith) c.lines.invariant

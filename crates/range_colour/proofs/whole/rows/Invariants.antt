@@ -1,10 +1,6 @@
-use Rattle.std.proofs.Common.{ℕ, ◌≡◌, Some, length, slice_get, slice_index}
-use Rattle.plan.specs.declared.row.PlanRow.{PlanRow}
-use Rattle.range_colour.specs.PlacedPlans.{IsPlacedRow}
+use Rattle.std.specs.Prelude.{slice_index}
+use Rattle.range_colour.proofs.Planning.{IsPlacedTo}
 use Rattle.range_colour.proofs.whole.rows.Given as goal
 
 abbrev pub invariant-lines : goal.invariant-lines
-invariant-lines l = record {
-  whole : length l.rows ≡ l.i;
-  each : (k : ℕ) (row : PlanRow) → slice_get l.rows k ≡ Some row → IsPlacedRow l.code k (slice_index l.places) row;
-}
+invariant-lines l = IsPlacedTo l.code l.fn.empty.p l.fn.empty.r l.i (λ k. slice_index l.places) l.plan

@@ -1,7 +1,7 @@
 use Rattle.std.proofs.lemmas.Result.{IfOk-weaker}
 use Rattle.allocate.specs.Allocations.{IsAllocation, IsEven, IsStill}
 use Rattle.allocate.proofs.Even.{is_even, is_still}
-use Rattle.allocate.proofs.fit.allocate.Goals as goal
+use Rattle.allocate.proofs.fit.allocate_flat.Goals as goal
 
 pub returns-in-Ok-clause-even : goal.returns-in-Ok-clause-even
 returns-in-Ok-clause-even c =
