@@ -24,4 +24,6 @@ mod pressures;
 #[cfg(test)]
 mod rows;
 #[cfg(test)]
+mod settled;
+#[cfg(test)]
 mod walks;
