@@ -9,8 +9,8 @@ use plan::{FlatPlan, Plan};
 use std::alloc::Global;
 use std::marker::Model;
 
-/// An allocation, as contracts see it. Its plans become lists of lists where these are asked for, as a
-/// list for each row takes more time than all else of an allocation.
+/// An allocation, as contracts see it. Its plans become lists of lists only where these are asked for: to
+/// make a list for each row and give it back takes as long as to find what the row has.
 #[derive(Drop)]
 pub struct FlatAllocation {
     pub(crate) image: Image,
@@ -36,6 +36,7 @@ impl FlatAllocation {
         self.need
     }
 
+    /// The image, in which the contexts share the file.
     pub fn image(&self) -> &Image
         ensures { result.now ≡ self.now.image }
     {

@@ -7,24 +7,24 @@ use Rattle.plan.specs.declared.row.Place.{Place}
 use Rattle.plan.specs.declared.row.PlanRow.{PlanRow}
 use Rattle.plan.specs.declared.row.Plan.{Plan}
 use Rattle.plan.specs.declared.flat.FlatRow.{FlatRow}
-use Rattle.plan.specs.Flat.{Rise, first_start, rows_of}
+use Rattle.plan.specs.Flat.{AreOrdered, first_start, rows_of}
 use Rattle.plan.specs.Rows.{places_in, with_row, write_in}
 
-pub first_below : (rows : List FlatRow) (end : ℕ) → Rise rows end → first_start rows end ≤ end
-first_below [] end rise = omega arith
-first_below (row ∷ rows) end rise = let rest = first_below rows end rise.1 in let here = rise.0 in omega arith
+pub first_below : (rows : List FlatRow) (end : ℕ) → AreOrdered rows end → first_start rows end ≤ end
+first_below [] end ordered = omega arith
+first_below (row ∷ rows) end ordered = let rest = first_below rows end ordered.1 in let here = ordered.0 in omega arith
 
 -- the first start with a row more
 first_push : (rows : List FlatRow) (row : FlatRow) (end most : ℕ) → row.start ≡ end → first_start (rows ++ row ∷ []) most ≡ first_start rows end
 first_push [] row end most e = e
 first_push (first ∷ rows) row end most e = refl
 
-pub rise_push : (rows : List FlatRow) (row : FlatRow) (end most : ℕ) → row.start ≡ end → end ≤ most → Rise rows end → Rise (rows ++ row ∷ []) most
-rise_push [] row end most e le rise = (omega arith, tt)
-rise_push (first ∷ rows) row end most e le rise =
+pub ordered_push : (rows : List FlatRow) (row : FlatRow) (end most : ℕ) → row.start ≡ end → end ≤ most → AreOrdered rows end → AreOrdered (rows ++ row ∷ []) most
+ordered_push [] row end most e le ordered = (omega arith, tt)
+ordered_push (first ∷ rows) row end most e le ordered =
     let same = first_push rows row end most e in
-    let here = rise.0 in
-    (omega arith, rise_push rows row end most e le rise.1)
+    let here = ordered.0 in
+    (omega arith, ordered_push rows row end most e le ordered.1)
 
 -- a part of a list, where more stands behind
 part_same : (entries more : List Place) (start end : ℕ) → start ≤ end → end ≤ length entries → take (end - start) (drop start (entries ++ more)) ≡ take (end - start) (drop start entries)
@@ -39,33 +39,33 @@ part_last entries more n end is whole =
     ap (take (end - n)) (drop_at entries more n (sym is)) ∙ take_all (end - n) more (omega arith)
 
 -- the rows with one more
-pub rows_push : (entries more : List Place) (rows : List FlatRow) (row : FlatRow) → row.start ≡ length entries → Rise rows (length entries)
+pub rows_push : (entries more : List Place) (rows : List FlatRow) (row : FlatRow) → row.start ≡ length entries → AreOrdered rows (length entries)
     → rows_of (entries ++ more) (rows ++ row ∷ []) ≡ rows_of entries rows ++ record { places = more; write = row.write } ∷ []
-rows_push entries more [] row e rise =
+rows_push entries more [] row e ordered =
     ap (λ (places : List Place). record { places = places; write = row.write } ∷ []) (part_last entries more row.start (length (entries ++ more)) e refl)
-rows_push entries more (first ∷ rows) row e rise =
+rows_push entries more (first ∷ rows) row e ordered =
     let here = ap (λ end. take (end - first.start) (drop first.start (entries ++ more))) (first_push rows row (length entries) (length (entries ++ more)) e)
-    ∙ part_same entries more first.start (first_start rows (length entries)) rise.0 (first_below rows (length entries) rise.1) in
+    ∙ part_same entries more first.start (first_start rows (length entries)) ordered.0 (first_below rows (length entries) ordered.1) in
     ap (λ (places : List Place). record { places = places; write = first.write } ∷ rows_of (entries ++ more) (rows ++ row ∷ [])) here
-    ∙ ap (λ later. record { places = take (first_start rows (length entries) - first.start) (drop first.start entries); write = first.write } ∷ later) (rows_push entries more rows row e rise.1)
+    ∙ ap (λ later. record { places = take (first_start rows (length entries) - first.start) (drop first.start entries); write = first.write } ∷ later) (rows_push entries more rows row e ordered.1)
 
 -- the plan with one more
 pub plan_push : (before : Plan) (p r : ℕ) (entries longer more : List Place) (rows pushed : List FlatRow) (row : FlatRow) → record { p = p; r = r; rows = rows_of entries rows } ≡ before
-    → row.start ≡ length entries → Rise rows (length entries) → longer ≡ entries ++ more → pushed ≡ rows ++ row ∷ []
+    → row.start ≡ length entries → AreOrdered rows (length entries) → longer ≡ entries ++ more → pushed ≡ rows ++ row ∷ []
     → record { p = p; r = r; rows = rows_of longer pushed } ≡ with_row before (record { places = more; write = row.write })
-plan_push before p r entries longer more rows pushed row is e rise l m =
+plan_push before p r entries longer more rows pushed row is e ordered l m =
     let whole : rows_of longer pushed ≡ rows_of entries rows ++ record { places = more; write = row.write } ∷ [] =
-    ap (λ list. rows_of list pushed) l ∙ ap (rows_of (entries ++ more)) m ∙ rows_push entries more rows row e rise in
+    ap (λ list. rows_of list pushed) l ∙ ap (rows_of (entries ++ more)) m ∙ rows_push entries more rows row e ordered in
     ap (λ list. record { p = p; r = r; rows = list }) whole ∙ ap (λ plan. with_row plan (record { places = more; write = row.write })) is
 
 -- a row's part is within the entries
-pub within : (rows : List FlatRow) (i end : ℕ) (row : FlatRow) → Rise rows end → slice_get rows i ≡ Some row
+pub within : (rows : List FlatRow) (i end : ℕ) (row : FlatRow) → AreOrdered rows end → slice_get rows i ≡ Some row
     → (row.start ≤ first_start (drop (i + 1) rows) end) × (first_start (drop (i + 1) rows) end ≤ end)
-within [] i end row rise is = absurd (cc)
-within (first ∷ rows) zero end row rise is =
+within [] i end row ordered is = absurd (cc)
+within (first ∷ rows) zero end row ordered is =
     let same : first ≡ row = cc in
-    subst (λ (x : FlatRow). (x.start ≤ first_start rows end) × (first_start rows end ≤ end)) same (rise.0, first_below rows end rise.1)
-within (first ∷ rows) (suc i) end row rise is = simp unary_clauses (simp unary_clauses at (within rows i end row rise.1 is))
+    subst (λ (x : FlatRow). (x.start ≤ first_start rows end) × (first_start rows end ≤ end)) same (ordered.0, first_below rows end ordered.1)
+within (first ∷ rows) (suc i) end row ordered is = simp unary_clauses (simp unary_clauses at (within rows i end row ordered.1 is))
 
 -- what a row has
 pub row_get : (entries : List Place) (rows : List FlatRow) (i : ℕ) (row : FlatRow) → slice_get rows i ≡ Some row

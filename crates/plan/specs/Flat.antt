@@ -1,5 +1,5 @@
 -- Plans whose rows stand one after another in one list.
-use Rattle.std.specs.Prelude.{ℕ, ◌-◌, ◌≤◌, List, [], ◌∷◌, take, drop, length}
+use Rattle.std.specs.Prelude.{ℕ, ◌-◌, ◌≤◌, List, [], ◌∷◌, take, drop, length, ⊤}
 use Rattle.plan.specs.declared.row.Place.{Place}
 use Rattle.plan.specs.declared.row.PlanRow.{PlanRow}
 use Rattle.plan.specs.declared.row.Plan.{Plan}
@@ -17,14 +17,15 @@ rows_of entries [] = []
 rows_of entries (row ∷ rows) =
     record { places = take (first_start rows (length entries) - row.start) (drop row.start entries); write = row.write } ∷ rows_of entries rows
 
--- no row begins before another ends
-abbrev pub Rise : List FlatRow → ℕ → Type 0
-Rise [] end = Unit {0}
-Rise (row ∷ rows) end = (row.start ≤ first_start rows end) × Rise rows end
+-- no row begins behind where the next one does, nor behind the end
+abbrev pub AreOrdered : List FlatRow → ℕ → Type 0
+AreOrdered [] end = ⊤
+AreOrdered (row ∷ rows) end = (row.start ≤ first_start rows end) × AreOrdered rows end
 
 -- the plan of these lists
 abbrev pub plan_of : Inside → Plan
 plan_of flat = record { p = flat.p; r = flat.r; rows = rows_of flat.entries.items flat.rows.items }
 
+-- each row begins where it may
 abbrev pub IsInOrder : Inside → Type 0
-IsInOrder flat = Rise flat.rows.items (length flat.entries.items)
+IsInOrder flat = AreOrdered flat.rows.items (length flat.entries.items)

@@ -3,7 +3,7 @@
 
 ghost use Rattle.std.specs.Prelude.{[], ◌≡◌, ◌-◌, ◌≤◌, IfOk, OnOk, drop, length, slice_get, take};
 ghost use Rattle.plan.specs.Rows.{places_in, with_row, write_in};
-ghost use Rattle.plan.specs.Flat.{Rise, first_start, rows_of};
+ghost use Rattle.plan.specs.Flat.{AreOrdered, first_start, rows_of};
 
 use crate::row::{Place, Plan, PlanRow};
 use micro_isa::{List, NoMemory};
@@ -119,7 +119,8 @@ impl FlatPlan {
         }
     }
 
-    /// Appends a row. Four billion entries are not told from want of memory.
+    /// Appends a row. A refusal may leave a row without entries at the end. More than four billion entries
+    /// are not told from want of memory.
     pub fn push_row(&mut self, places: &[Place], write: Option<u8>) -> Result<(), NoMemory>
         ensures { OnOk result (self.new ≡ with_row self.old (record { places = places.now; write = write })) }
     {
@@ -184,7 +185,7 @@ fn row_at(rows: &[FlatRow], i: usize) -> Option<FlatRow>
 
 /// The entries of row `i`.
 fn entries_at<'a>(entries: &'a [Place], rows: &[FlatRow], i: usize) -> &'a [Place]
-    requires { Rise rows.now (length entries.now) }
+    requires { AreOrdered rows.now (length entries.now) }
     ensures { result.now ≡ places_in (slice_get (rows_of entries.now rows.now) i) }
 {
     match row_at(rows, i) {

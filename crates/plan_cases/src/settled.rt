@@ -43,7 +43,7 @@ fn walked(alloc: Global, program: &Program) -> Result<(Route, u32), Fail>
     Ok((route, least.all))
 }
 
-/// The glue of a walk by its jumps alone; none where a register moves on a fall.
+/// The glue of a walk by its jumps alone; none where the walk does not tell that it is settled.
 fn by_jumps(
     alloc: Global,
     program: &Program,

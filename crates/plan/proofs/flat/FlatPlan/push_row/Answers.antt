@@ -1,8 +1,8 @@
 use Rattle.std.proofs.Common.{rules, ◌≡◌, sym, subst, ◌∙◌, ap, arith, length, length-append, ◌++◌, ◌∷◌, []}
 use Rattle.std.specs.Prelude.{◌≤◌}
-use Rattle.plan.specs.Flat.{Rise}
+use Rattle.plan.specs.Flat.{AreOrdered}
 use Rattle.plan.specs.declared.flat.FlatRow.{FlatRow}
-use Rattle.plan.proofs.Flattened.{rise_push, plan_push}
+use Rattle.plan.proofs.Flattened.{ordered_push, plan_push}
 use Rattle.plan.proofs.flat.FlatPlan.push_row.Goals.{in-Ok-extend_from_slice, in-Err}
 use Rattle.plan.proofs.flat.FlatPlan.push_row.Goals as goal
 
@@ -16,7 +16,7 @@ invariant_of-self-2 c =
       | in-Ok-extend_from_slice w ↦ let more = ap length w.in-Ok-extend_from_slice.ensures.items ∙ length-append c.self.inside.entries.items c.args.places.now in omega arith
       | in-Err w ↦ let same = ap length w.in-Err.ensures.items in omega arith
     ] in
-    subst (λ rows. Rise rows (length c.extend_from_slice.new.self.items)) (sym pushed) (rise_push c.self.inside.rows.items row (length c.self.inside.entries.items) (length c.extend_from_slice.new.self.items) begins longer c.self.invariant)
+    subst (λ rows. AreOrdered rows (length c.extend_from_slice.new.self.items)) (sym pushed) (ordered_push c.self.inside.rows.items row (length c.self.inside.entries.items) (length c.extend_from_slice.new.self.items) begins longer c.self.invariant)
 
 pub returns : goal.returns
 returns c =
