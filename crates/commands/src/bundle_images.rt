@@ -12,7 +12,7 @@ use crate::status::Status;
 use crate::task::Reply;
 use allocate::FlatAllocation;
 use image_load::write_image;
-use micro_isa::{Bundle, Image, MOST_STEPS, NoMemory};
+use micro_isa::{Bundle, MOST_STEPS, NoMemory};
 use std::alloc::Global;
 
 /// The opening of the run of a bundle's image, where the bundle fits its file.
@@ -51,16 +51,17 @@ pub(crate) fn build_bundle(alloc: Global, bundle: &Bundle) -> Result<Reply, NoMe
     ensures { IfOk result (λ r. BuildTells r.status bundle.now r.text.items) }
 {
     match allocation_of(alloc, bundle)? {
-        Allocated::Fits(allocation) => written(alloc, allocation.image()),
+        Allocated::Fits(allocation) => written(alloc, &allocation),
         Allocated::Short(reply) => Ok(reply),
     }
 }
 
-fn written(alloc: Global, image: &Image) -> Result<Reply, NoMemory>
-    requires { IsFormedImage image.now }
-    ensures { IfOk result (λ r. IsWritten r.status r.text.items image.now) }
+/// The bytes of an allocation's image.
+fn written(alloc: Global, allocation: &FlatAllocation) -> Result<Reply, NoMemory>
+    requires { IsFormedImage allocation.now.image }
+    ensures { IfOk result (λ r. IsWritten r.status r.text.items allocation.now.image) }
 {
-    let text = write_image(alloc, image)?;
+    let text = write_image(alloc, allocation.image())?;
     Ok(Reply {
         status: Status::Done,
         text,

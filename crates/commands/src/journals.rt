@@ -11,6 +11,7 @@ use crate::journal_lines::{differs_line, illegal_line, unread_line};
 use crate::no_fit::{Allocated, allocation_of};
 use crate::status::Status;
 use crate::task::{JournalTask, Reply};
+use allocate::FlatAllocation;
 use micro_isa::{Bundle, Image, LONGEST_JOURNAL, MOST_STEPS, NoMemory};
 use run_journal::{ReplayFault, TextFault, replay_text};
 use std::alloc::Global;
@@ -32,10 +33,7 @@ pub fn perform_on_journal(
 {
     let steps = steps_of(task);
     match allocation_of(alloc, bundle)? {
-        Allocated::Fits(allocation) => {
-            let need = allocation.need();
-            replay_image(alloc, allocation.image(), need, journal, steps)
-        }
+        Allocated::Fits(allocation) => replay_allocated(alloc, &allocation, journal, steps),
         Allocated::Short(reply) => Ok(reply),
     }
 }
@@ -47,6 +45,22 @@ fn steps_of(task: JournalTask) -> u32
     match task {
         JournalTask::Replay { steps } => steps,
     }
+}
+
+/// The journal is followed on an allocation's image.
+fn replay_allocated(
+    alloc: Global,
+    allocation: &FlatAllocation,
+    journal: &[u8],
+    steps: u32,
+) -> Result<Reply, NoMemory>
+    requires formed { IsFormedImage allocation.now.image }
+    requires bound { steps ≤ MOST_STEPS }
+    requires short { length journal.now ≤ LONGEST_JOURNAL }
+    ensures { IfOk result (λ r. Replayed steps allocation.now.image allocation.now.need journal.now r.status r.text.items) }
+{
+    let need = allocation.need();
+    replay_image(alloc, allocation.image(), need, journal, steps)
 }
 
 /// The journal is followed line by line: the report of the run that has its entries, or what strays.

@@ -13,6 +13,7 @@ use crate::image_runs::{attached, outcome, ports_of};
 use crate::no_fit::{Allocated, allocation_of};
 use crate::reports::status_so_far;
 use crate::task::Reply;
+use allocate::FlatAllocation;
 use context_runner::{Closed, InRounds, Runner};
 use micro_isa::{Image, MOST_STEPS, NoMemory};
 use ports::Ramp;
@@ -35,12 +36,18 @@ fn soak(alloc: Global, number: u32) -> Result<Reply, NoMemory>
 {
     let bundle = generated(alloc, number)?;
     match allocation_of(alloc, &bundle)? {
-        Allocated::Fits(allocation) => {
-            let need = allocation.need();
-            soak_image(alloc, number, need, allocation.into_image())
-        }
+        Allocated::Fits(allocation) => soak_allocated(alloc, number, allocation),
         Allocated::Short(reply) => Ok(reply),
     }
+}
+
+/// The summary of the run of an allocation's image, which is taken out of it.
+fn soak_allocated(alloc: Global, number: u32, allocation: FlatAllocation) -> Result<Reply, NoMemory>
+    requires { IsFormedImage allocation.image }
+    ensures { IfOk result (λ r. IsSummary number allocation.need MOST_STEPS allocation.image r.status r.text.items) }
+{
+    let need = allocation.need();
+    soak_image(alloc, number, need, allocation.into_image())
 }
 
 fn soak_image(alloc: Global, number: u32, need: u32, image: Image) -> Result<Reply, NoMemory>
